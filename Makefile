@@ -58,15 +58,16 @@ ifeq ($(TARGET)$(origin CC),aarch64default)
 CC = aarch64-linux-gnu-gcc
 endif
 CFLAGS ?= -O2
-# assembly.h alone decides where there is assembly. The compiler says what follows from it, and for which system it makes
-# code. Without a compiler, as for `make install`, the target is that of the last build.
+# assembly.h alone decides where there is assembly. The compiler says what follows from it, and for which system it
+# makes code. Without a compiler, as for `make install`, the target is the one of the last build.
 ASKED := $(shell $(CC) $(CPPFLAGS) $(CFLAGS) -dM -E $(C)/assembly.h 2>/dev/null | sed -n '\
 	s/^.define FASTER_HEX_X86_64 .*/x86_64/p; s/^.define FASTER_HEX_AARCH64 .*/aarch64/p; \
 	s/^.define __APPLE__ .*/macos/p; s/^.define __MINGW32__ .*/windows/p; s/^.define __STDC__ .*/asked/p')
 HERE := $(subst amd64,x86_64,$(subst arm64,aarch64,$(shell uname -m)))
 ASSEMBLED := $(filter x86_64 aarch64,$(or $(ASKED),$(TARGET),$(HERE)))
 # Another processor gives the folder of its libraries its name.
-OTHER := $(filter-out x86_64 amd64 aarch64 arm64,$(firstword $(subst -, ,$(shell $(CC) $(CFLAGS) -dumpmachine 2>/dev/null))))
+MACHINE := $(firstword $(subst -, ,$(shell $(CC) $(CFLAGS) -dumpmachine 2>/dev/null)))
+OTHER := $(filter-out x86_64 amd64 aarch64 arm64,$(MACHINE))
 ifeq ($(TARGET),)
 TARGET := $(or $(ASSEMBLED),$(OTHER),portable)
 else ifeq ($(filter $(ASSEMBLED) $(OTHER) portable,$(TARGET)),)
@@ -84,11 +85,11 @@ PROGRAMS = fhex fhex-stream
 MADE_PROGRAMS = $(if $(filter x86_64 aarch64 x86_64windows,$(TARGET)$(SYSTEM)),$(PROGRAMS:%=$(OUT)/%$(EXE)))
 ifeq ($(SYSTEM)$(filter -static%,$(LDFLAGS)),)
 SHARED = $(OUT)/libfaster_hex.so.$(VERSION)
-SHOWN = -Wl,-soname,libfaster_hex.so.1 -Wl,-z,relro,-z,now,-z,text -Wl,--version-script=$(C)/faster_hex.map
+EXPORTING = -Wl,-soname,libfaster_hex.so.1 -Wl,-z,relro,-z,now,-z,text -Wl,--version-script=$(C)/faster_hex.map
 LOADED = $(OUT)/libfaster_hex.so.1 '-Wl,-rpath,$$ORIGIN'
 else ifeq ($(SYSTEM),windows)
 SHARED = $(OUT)/libfaster_hex.dll
-SHOWN = $(C)/faster_hex.def
+EXPORTING = $(C)/faster_hex.def
 LOADED = $(SHARED)
 OF_TESTS = -static -Itests/c/windows
 EXE = .exe
@@ -148,7 +149,7 @@ $(ARCHIVE): $(OBJECTS)
 	rm -f $(MADE) && $(AR) rcs $(MADE) $(OBJECTS) && $(DONE)
 
 $(OUT)/libfaster_hex.so.$(VERSION) $(OUT)/libfaster_hex.dll: $(EXPORTED) $(C)/faster_hex.map $(C)/faster_hex.def
-	$(CC) $(CFLAGS) $(LDFLAGS) -shared -o $(MADE) $(EXPORTED) $(SHOWN) && $(DONE)
+	$(CC) $(CFLAGS) $(LDFLAGS) -shared -o $(MADE) $(EXPORTED) $(EXPORTING) && $(DONE)
 
 # The object is built by a rule of its own, because the name of a temporary object would be stored in the program.
 $(PROGRAMS:%=$(OUT)/%$(EXE)): %$(EXE): crates/fhex/fhex.c %.o

@@ -76,7 +76,8 @@ typedef size_t other(const uint8_t *src, size_t len, uint8_t *dst, size_t room);
 #endif
 #ifdef PLANS
 #define EACH \
-    PLAN(v1_scalar) PLAN(v1_plain) PLAN(v2_avx2) PLAN(v2_plain) PLAN(v3_avx2) PLAN(v3_plain) PLAN(v3_plain_32) PLANS_WIDEST
+    PLAN(v1_scalar) PLAN(v1_plain) PLAN(v2_avx2) PLAN(v2_plain) PLAN(v3_avx2) PLAN(v3_plain) PLAN(v3_plain_32) \
+    PLANS_WIDEST
 #else
 #define EACH \
     OURS(v2) OURS(v3) RUST(sse41) RUST(avx2) RUST(slices_v2) RUST(slices_v3) EACH_WIDEST LOOPS(1) LOOPS(16)

@@ -84,7 +84,6 @@ macro_rules! libraries {
     };
 }
 
-// SAFETY of all calls of C libraries: the lengths are those of the slices, and the digits end with a zero.
 libraries! {
     #[cfg(all())]
     in_rust(it) "Bunkmedlar (Rust)",
@@ -93,10 +92,12 @@ libraries! {
     #[cfg(all())]
     in_c(it) "Bunkmedlar (C)",
         encodes unsafe {
+            // SAFETY: the pointers and lengths are those of the slices, here and in the calls below.
             let (src, dst) = (black_box(it.bytes), black_box(&mut *it.room));
             faster_hex_encode(src.as_ptr(), src.len(), dst.as_mut_ptr(), dst.len(), false)
         },
         decodes unsafe {
+            // SAFETY: as above.
             let (src, dst) = (black_box(it.lower), black_box(&mut *it.room));
             faster_hex_decode(src.as_ptr(), src.len(), dst.as_mut_ptr(), dst.len())
         };
@@ -115,22 +116,28 @@ libraries! {
             .decode_mut(black_box(it.lower), &mut black_box(&mut *it.room)[..N])
             .unwrap();
     #[cfg(crypto)]
+    // SAFETY: the call takes any number.
     openssl(it) named("OpenSSL", unsafe { OpenSSL_version(6) }),
         encodes unsafe {
+            // SAFETY: as above.
             let (src, dst, mut written) = (black_box(it.bytes), black_box(&mut *it.room), 0);
             OPENSSL_buf2hexstr_ex(dst.as_mut_ptr(), dst.len(), &mut written, src.as_ptr(), src.len(), 0)
         },
         decodes unsafe {
+            // SAFETY: as above, and the digits end with a zero.
             let (src, dst, mut written) = (black_box(it.ended), black_box(&mut *it.room), 0);
             OPENSSL_hexstr2buf_ex(dst.as_mut_ptr(), dst.len(), &mut written, src.as_ptr(), 0)
         };
     #[cfg(sodium)]
+    // SAFETY: the call takes nothing.
     libsodium(it) named("libsodium", unsafe { sodium_version_string() }),
         encodes unsafe {
+            // SAFETY: as above.
             let (src, dst) = (black_box(it.bytes), black_box(&mut *it.room));
             sodium_bin2hex(dst.as_mut_ptr(), dst.len(), src.as_ptr(), src.len())
         },
         decodes unsafe {
+            // SAFETY: as above. The list of bytes to ignore and the end may be null.
             let (src, dst, mut written) = (black_box(it.lower), black_box(&mut *it.room), 0);
             let (ignored, end) = (null_mut(), null_mut());
             sodium_hex2bin(dst.as_mut_ptr(), dst.len(), src.as_ptr(), src.len(), ignored, &mut written, end)

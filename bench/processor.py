@@ -10,9 +10,10 @@ def of(pattern):
     return re.search(rf"^{pattern}\s*: (.*)", ABOUT, re.M)[1]
 
 
-# The vendor, the family, the model and the stepping, such as `intel-6-85-7`. The name of a processor on a virtual machine
-# often does not tell it from others.
-NAME = "-".join([re.sub("^Genuine|^Authentic", "", of("vendor_id")).lower(), *map(of, ("cpu family", "model", "stepping"))])
+# The vendor, the family, the model and the stepping, such as `intel-6-85-7`. The name of a processor on a virtual
+# machine often does not tell it from others.
+VENDOR = re.sub("^Genuine|^Authentic", "", of("vendor_id")).lower()
+NAME = "-".join([VENDOR, *map(of, ("cpu family", "model", "stepping"))])
 
 
 class Kept:

@@ -1,13 +1,14 @@
 # Edits the LLVM text of faster_hex_c between its proof and the compiler. generated/README.md lists all of its edits.
-# Usage: awk -v level=LEVEL -f library.awk, where LEVEL is the number that `level` of faster_hex_c returns in this build.
+# Usage: awk -v level=LEVEL -f library.awk, where LEVEL is the number that `level` of faster_hex_c returns in this
+# build.
 
 # `level` is a function without a body here. Its number stands in place of the one call, so that the plans for other
 # numbers become code that nothing reaches.
 { edits += gsub(/call i8 @"faster_hex_c::level"\(\)/, "add i8 0, " level) }
 
-# Levels 4 and 5 were proved for the processor of level 3, because `rattle` knows no processor with AVX-512. From here on
-# clang may use AVX-512, and at level 5 also AVX-512 VBMI. It makes slower code of some calls with it, so these are no
-# longer exported, and clang removes them.
+# Levels 4 and 5 were proved for the processor of level 3, because `rattle` knows no processor with AVX-512. From here
+# on clang may use AVX-512, and at level 5 also AVX-512 VBMI. It makes slower code of some calls with it, so these are
+# no longer exported, and clang removes them.
 BEGIN { wide = "\"target-cpu\"=\"x86-64-v4\"" (level == 5 ? " \"target-features\"=\"+avx512vbmi\"" : "") }
 level >= 4 { sub(/"target-cpu"="x86-64-v3"/, wide) }
 level >= 4 && /^define .*@faster_hex_(encode|decode_grouped|first_invalid)/ { sub(/^define /, "define internal ") }
@@ -46,10 +47,15 @@ END {
 }
 
 # The text that the toolchain writes may change. Then it must not pass without the edit.
-END { if (edits != 1) { print "library.awk: " edits + 0 " calls of level, and not one" >"/dev/stderr"; exit 1 } }
+function must_have(found, wanted, what) {
+    if (found == wanted) return
+    printf "library.awk: the LLVM text has %d %s, but must have %d\n", found, what, wanted >"/dev/stderr"
+    exit 1
+}
 END {
-    if (level == 5 && (look_ups != 1 || hints != 2)) {
-        print "library.awk: " look_ups + 0 " functions look_up_row_of_64, and not one, or " hints + 0 " by_long_rows, and not two" >"/dev/stderr"
-        exit 1
+    must_have(edits + 0, 1, "calls of `level`")
+    if (level == 5) {
+        must_have(look_ups + 0, 1, "functions `look_up_row_of_64`")
+        must_have(hints + 0, 2, "functions that look up long rows")
     }
 }

@@ -15,7 +15,7 @@ OUT = TOP / "out"
 BESIDE = OUT / "beside"
 TESTS_IN_C = TOP / "tests/c"
 CRATE = TOP / "crates/faster_hex_c"
-# The calls that each build has, and all functions of the header.
+# The calls of the header that check, search or convert, and all of its functions. Some builds lack some of the calls.
 CALLS = re.findall(r"^[a-z].* (faster_hex_[a-z_]*)\(", (CRATE / "faster_hex.h").read_text(), re.M)
 NAMES = [*CALLS, "faster_hex_status_text", "faster_hex_version", "faster_hex_build"]
 VERSION = re.search("^VERSION = (.*)", (TOP / "Makefile").read_text(), re.M)[1]

@@ -8,7 +8,7 @@
 # - dispatch.c must define the functions of the header, and faster_hex.map and faster_hex.def must export them.
 # - The version must be the VERSION of the Makefile in the header, in the crate for Rust, in CMakeLists.txt, in
 #   fhex-stream, in the manual pages, in bunkmedlar.spdx and in the names of generated/.
-# - Each PROVED in generated/ must fit the sources, its files, and the prover that README.md names.
+# - Each PROVED in generated/ must fit the sources, its files, and the prover that CALLING.md names.
 set -eu
 case ${1-} in -h | --help) sed '1d; /^#/!q; s/^# \{0,1\}//' "$0" && exit ;; esac
 
@@ -76,15 +76,15 @@ versions | awk -v wanted="$wanted" '
     $2 != wanted { print $1 ": version " $2 ", and not " wanted " as in the Makefile"; wrong = 1 }
     END { exit wrong }' || status=1
 
-# proved FOLDER CRATE: checks the PROVED of a folder. It must list the proofs of the crate and of all crates below it, by
-# a prover with the logic that README.md names. scripts/check-generated compares it with the sources and the files.
+# proved FOLDER CRATE: checks the PROVED of a folder. It must list the proofs of the crate and of all crates below it,
+# by a prover with the logic that CALLING.md names. scripts/check-generated compares it with the sources and the files.
 proved() {
     crates=$(scripts/repository.py "$2" | sort)
     told=$(sed -n 's/ logic=proved .*//p' "$1/PROVED" | sort -u)
     [ "$told" = "$crates" ] || { echo "$1/PROVED tells of" $told ", and not of" $crates && return 1; }
     prover=$(sed -n 's/^prover //p' "$1/PROVED")
-    grep -qF "\`logic ${prover#* logic }\`" README.md ||
-        { echo "README.md does not name the prover $prover" && return 1; }
+    grep -qF "\`logic ${prover#* logic }\`" crates/faster_hex/CALLING.md ||
+        { echo "CALLING.md does not name the prover $prover" && return 1; }
     UNPROVED= scripts/check-generated "$1" 2>&1
 }
 cd ../..

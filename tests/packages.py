@@ -21,7 +21,8 @@ FEATURES = {"serde": ["derive"]}
 
 def over(registry):
     """The command for cargo, with a folder of crates in place of the network."""
-    return [CARGO, "--config", 'source.crates-io.replace-with="here"', "--config", f'source.here.directory="{registry}"']
+    options = 'source.crates-io.replace-with="here"', f'source.here.directory="{registry}"'
+    return [CARGO, *(word for it in options for word in ("--config", it))]
 
 
 @functools.cache
@@ -32,7 +33,8 @@ def is_there(name, registry):
     with tempfile.TemporaryDirectory() as own:
         (Path(own) / "lib.rs").touch()
         wanted = f'{name} = {{ version = "*", features = {FEATURES.get(name, [])} }}'.replace("'", '"')
-        (Path(own) / "Cargo.toml").write_text('[package]\nname = "wants"\n[lib]\npath = "lib.rs"\n[dependencies]\n' + wanted)
+        package = '[package]\nname = "wants"\n[lib]\npath = "lib.rs"\n[dependencies]\n'
+        (Path(own) / "Cargo.toml").write_text(package + wanted)
         return not ran([*over(registry), "generate-lockfile", "--offline"], cwd=own).returncode
 
 
@@ -54,7 +56,7 @@ def without(manifest, names):
 
 
 def files_of_package():
-    words = re.search(r"^include = \[(.*)\]", (TOP / "Cargo.toml").read_text(), re.M)[1]
+    words = re.search(r"^include = \[\n(.*?)^\]", (TOP / "Cargo.toml").read_text(), re.M | re.S)[1]
     found = [it for pattern in re.findall('"/(.*?)"', words) for it in TOP.glob(pattern) if it.is_file()]
     return ["Cargo.toml", *(str(it.relative_to(TOP)) for it in found)]
 

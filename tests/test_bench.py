@@ -1,18 +1,19 @@
-"""bench/report writes each table and chart of the pages, and bench/run times our calls beside other libraries. No test
-looks at a time."""
+"""bench/report writes each table of bench/README.md and the chart, and bench/run times our calls beside other
+libraries. No test looks at a time."""
 import os
 import re
 import shutil
+from xml.etree import ElementTree
 
 import pytest
 
 from commands import RUSTC, TOP, needs, ran, runs
 from packages import REGISTRY
 
-PAGES = "README.md", "bench/README.md"
+PAGES = "bench/README.md", "bench/chart.svg"
 LIBRARIES = "Bunkmedlar (Rust)", "Bunkmedlar (C)", "faster-hex 1.0.0", "hex 0.4.3", "OpenSSL 3.0"
-# The table without a marker, which no command makes.
-BY_HAND = "Call | Decoded bytes | Special path"
+# A table of a page, or a chart.
+MADE = r"(?:(?:.* \| .*\n|---.*\n)+|<svg (?:.*\n)*?</svg>\n)"
 
 
 def outputs():
@@ -36,7 +37,7 @@ def outputs():
 
 @pytest.mark.quick
 def test_report(tmp_path):
-    """It replaces all tables of the pages but one, and nothing else. A second time it writes the same."""
+    """It replaces the tables of the page and the chart, and nothing else. A second time it writes the same."""
     for page in (*PAGES, "bench/report", "bench/processor.py"):
         (tmp_path / page).parent.mkdir(exist_ok=True)
         shutil.copy(TOP / page, tmp_path / page)
@@ -60,10 +61,23 @@ def test_report(tmp_path):
     assert ran([tmp_path / "bench/report", "no-such-processor"]).returncode == 2
     # Where a call is faster by the same factor everywhere, no other figure is left.
     for name, first in marked:
-        made = re.search(rf"^<!-- {name} -->\n((?:.* \| .*\n|---.*\n)+|```text\n(?:.*\n)*?```\n)", text, re.M)[1]
+        made = re.search(rf"^<!-- {name} -->\n({MADE})", text, re.M)[1]
         assert made not in before, f"{name} begins with {first} and was not written"
-    unmarked = lambda text: re.sub(r"(?<= -->\n)(?:(?:.* \| .*\n|---.*\n)+|```text\n(?:.*\n)*?```\n)", "", text)
-    assert unmarked(text) == unmarked(before) and BY_HAND in unmarked(text)
+    unmarked = lambda text: re.sub(f"(?<= -->\n){MADE}", "", text)
+    assert unmarked(text) == unmarked(before)
+
+
+@pytest.mark.quick
+def test_chart():
+    """It is a picture that README.md shows. Each library has a line for encoding and one for decoding."""
+    text = (TOP / "bench/chart.svg").read_text()
+    root = ElementTree.fromstring(text)
+    said = [it.text for it in root.iter("{http://www.w3.org/2000/svg}text")]
+    assert "](bench/chart.svg)" in (TOP / "README.md").read_text()
+    named = [it for it in said if re.search(r" \d+\.\d+\.\d+$|^Bunkmedlar", it)]
+    assert {*LIBRARIES[:4]} <= {*named} and sorted(named) == sorted([*{*named}] * 2)
+    assert len(named) == sum(it.endswith(" GB/s") for it in said) == sum(it.endswith(" ns") for it in said)
+    assert {it.get("class") for it in root.iter("{http://www.w3.org/2000/svg}rect")} == {"page", "ours", "other"}
 
 
 @pytest.mark.quick

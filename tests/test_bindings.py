@@ -18,6 +18,7 @@ BOTH = """
     extern "C" { fn faster_hex_check(src: *const u8, len: usize) -> bool; }
     fn main() {
         let text = faster_hex::hex_string(b"hello");
+        // SAFETY: the pointer and the length are those of the text.
         assert!(unsafe { faster_hex_check(text.as_ptr(), text.len()) });
         println!("{text}\\n{}", later::Hex::new(&later::hex_decode_vec(text.as_bytes()).unwrap()));
     }"""
@@ -47,7 +48,8 @@ static CALLED: fn() = || {
         let (mut bytes, mut text) = ([0; 2], [0; 4]);
         assert!(faster_hex::hex_check_with_case(b"0123", case));
         assert!(faster_hex::hex_decode_with_case(b"0123", &mut bytes, case).is_ok());
-        assert!(faster_hex::hex_decode(b"0123", &mut bytes).is_ok() && faster_hex::hex_encode(&bytes, &mut text).is_ok());
+        assert!(faster_hex::hex_decode(b"0123", &mut bytes).is_ok());
+        assert!(faster_hex::hex_encode(&bytes, &mut text).is_ok());
     }
 };
 """
@@ -80,7 +82,8 @@ def program_over(folder, source, *dependencies):
 @pytest.mark.quick
 @pytest.mark.parametrize("flags", ["", "--cfg faster_hex_portable"])
 def test_units(tmp_path, flags):
-    """The tests in the crate itself, and its front page, by the assembly and by the plain calls. No registry is needed."""
+    """The tests in the crate itself, and its front page, by the assembly and by the plain calls. They need no
+    registry."""
     needs(CARGO)
     crate = packed(tmp_path)
     without(crate / "Cargo.toml", OF_SERDE)

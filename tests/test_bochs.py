@@ -12,8 +12,9 @@ from commands import CC, CRATE, TESTS_IN_C, needs, ran, runs
 # A processor model of bochs, the registers that a system would save, the level, and up to which length each length is
 # tried. The other builds are tried at few lengths, because other tests run them.
 SAVES_AVX, SAVES_AVX512 = 0x7, 0xe7
-RUN = [("corei7_icelake_u", SAVES_AVX512, 5, 560), ("corei7_skylake_x", SAVES_AVX512, 4, 560), ("corei7_skylake_x", SAVES_AVX, 3, 64),
-       ("corei7_haswell_4770", SAVES_AVX, 3, 64), ("corei7_sandy_bridge_2600k", SAVES_AVX, 2, 64)]
+RUN = [("corei7_icelake_u", SAVES_AVX512, 5, 560), ("corei7_skylake_x", SAVES_AVX512, 4, 560),
+       ("corei7_skylake_x", SAVES_AVX, 3, 64), ("corei7_haswell_4770", SAVES_AVX, 3, 64),
+       ("corei7_sandy_bridge_2600k", SAVES_AVX, 2, 64)]
 # Without a window, sound or a network port.
 SETTINGS = """megs: 64
 cpu: model={model}, count=1, ips=200000000, reset_on_triple_fault=0

@@ -11,8 +11,12 @@ pytestmark = pytest.mark.quick
 OF_RUST = """
 use std::slice;
 
+/// # Safety
+///
+/// `src` points to `len` bytes.
 #[no_mangle]
 pub unsafe extern "C" fn check_of_rust(src: *const u8, len: usize) -> bool {
+    // SAFETY: the caller promises this.
     faster_hex::hex_check(slice::from_raw_parts(src, len))
 }
 """
@@ -32,8 +36,8 @@ fn main() {
 
 
 def patched(top, with_record):
-    """Changes the calls `check` of each build: they refuse all texts. If told so, changes the hashes in PROVED too, as a
-    distribution may do, so that `make` builds it without UNPROVED=yes."""
+    """Changes the calls `check` of each build, which then return false for every text. If told so, changes the hashes
+    in PROVED too, as a distribution may do, so that `make` builds it without UNPROVED=yes."""
     record = top / "generated/PROVED"
     for path in top.glob("generated/x86-64*.s"):
         old = path.read_bytes()
@@ -73,16 +77,16 @@ def test_each_runs_its_own_code(tmp_path, copy, library, which):
         both, wanted = [copy / "out/libfaster_hex.a", plain], "0 1\n"
     (tmp_path / "both.c").write_text(OF_C)
     for order in both, both[::-1]:
-        words = [CC, "-I", copy / "crates/faster_hex_c", tmp_path / "both.c", *order, *"-lpthread -ldl -lm -lgcc_s".split()]
-        runs([*words, "-o", tmp_path / "both"])
+        words = [CC, "-I", copy / "crates/faster_hex_c", tmp_path / "both.c", *order]
+        runs([*words, *"-lpthread -ldl -lm -lgcc_s".split(), "-o", tmp_path / "both"])
         runs([tmp_path / "both"], out=wanted)
 
 
 @pytest.mark.parametrize("order", [["plain", "fixed"], ["fixed", "plain"]])
 def test_two_crates(tmp_path, copy, order):
-    """The commands on the package's page give a patched crate names of its own."""
+    """The commands in packaging.md give a patched crate names of its own."""
     needs_x86_64()
-    for words in re.findall("`(sed -i .*?)`", (TOP / "docs/release/README.md").read_text()):
+    for words in re.findall("`(sed -i .*?)`", (TOP / "docs/packaging.md").read_text()):
         runs(["sh", "-c", words], cwd=copy)
     patched(copy, False)
     tops, own = {"plain": TOP, "fixed": copy}, [RUSTC, "--edition", "2021", "--out-dir", tmp_path]

@@ -3,8 +3,8 @@ import re
 
 import pytest
 
-from commands import (ARM_CC, CALLS, CC, CRATE, CXX, NAMES, ON_ARM, PRINTED, SHARED, STRICT, TESTS_IN_C, TOP, compiled,
-                      is_locked, needs, passes, ran, runs, shows_names)
+from commands import (ARM_CC, CALLS, CC, CRATE, CXX, NAMES, ON_ARM, PRINTED, RUSTC, SHARED, STRICT, TESTS_IN_C, TOP,
+                      compiled, is_locked, needs, passes, ran, runs, shows_names)
 
 pytestmark = pytest.mark.quick
 BUILDS = [*TOP.glob("generated/x86-64*.s")]
@@ -83,8 +83,8 @@ def test_header_that_leaves_warnings_as_they_were(tmp_path):
 
 
 def test_names_and_state_of_the_archive(target):
-    """It has the header's functions, hides them from other shared libraries, and needs no external symbols. It has no other
-    name that another library could have too. Its only state is the byte for the choice of a build."""
+    """It has the header's functions, hides them from other shared libraries, and needs no external symbols. It has no
+    other name that another library could have too. Its only state is the byte for the choice of a build."""
     folder, *_, runner = target
     said = ran(["readelf", "-SsW", folder / "libfaster_hex.a"]).stdout
     found = re.findall(r"^ *\d+: \w+ +\w+ \w+ +(GLOBAL|WEAK) +(\w+) +(\w+) (\S+)$", said, re.M)
@@ -116,8 +116,8 @@ def test_names_of_the_shared_library(target):
 
 
 def test_call_of_a_later_version(tmp_path):
-    """This version's list of names does not export it. Otherwise a program that makes the call would start with a library
-    of this version, and fail at the call."""
+    """This version's list of names does not export it. Otherwise a program that makes the call would start with a
+    library of this version, and fail at the call."""
     (tmp_path / "later.c").write_text("void faster_hex_later(void) {}\nvoid faster_hex_build(void) {}\n")
     words = "-shared", "-fPIC", f"-Wl,--version-script={CRATE}/faster_hex.map", tmp_path / "later.c"
     runs([CC, *words, "-o", tmp_path / "later.so"])
@@ -132,6 +132,66 @@ def test_frames_of_the_builds(library):
     # Each call has two names, of which the C library uses the one that ends so.
     functions = [it for it in re.findall(r" FUNC .* (\w\S*)$", said, re.M) if not it.endswith("_of_c")]
     assert said.count(" FDE ") == len(functions) and said.count("DW_CFA_def_cfa_offset: ") == len(moves) > 0
+
+
+def snippets():
+    """The first snippets of README.md by their languages: each call, and what its comment says of the key."""
+    head = (TOP / "README.md").read_text().partition("\n## ")[0]
+    found = re.findall(r"^```(c|rust)\n.*\n((?:\S.*\n)+)```$", head, re.M)
+    return {kind: re.findall(r"^(.*?)\??; +/[/*] (.*?)(?: \*/)?$", lines, re.M) for kind, lines in found}
+
+
+def test_snippet_in_c(tmp_path, library):
+    calls = snippets()["c"]
+    lines = "".join(f"    it = {call};\n    told(it);\n" for call, _ in calls)
+    (tmp_path / "snippet.c").write_text(f"""#include <faster_hex.h>
+        #include <stdio.h>
+        static unsigned char key[2];
+        static void told(struct faster_hex_answer it) {{
+            printf("status %d", it.status);
+            if (it.status) printf(", index %zu", it.number);
+            printf(": key is%s %02x %02x\\n", it.status ? " still" : "", key[0], key[1]);
+        }}
+        int main(void) {{
+            struct faster_hex_answer it;
+        {lines}}}
+        """)
+    program = compiled(CC, tmp_path / "snippet", tmp_path / "snippet.c", library / "libfaster_hex.a")
+    assert runs([program]).splitlines() == [told for _, told in calls] and len(calls) == 2
+
+
+def test_snippet_in_rust(tmp_path):
+    needs(RUSTC)
+    calls = snippets()["rust"]
+    lines = "".join(f"    told({call}.map(drop), key);\n" for call, _ in calls)
+    (tmp_path / "snippet.rs").write_text(f"""use faster_hex::hex_decode;
+        fn told(it: Result<(), faster_hex::Error>, key: [u8; 2]) {{
+            let still = it.map_or_else(|error| format!("Err: {{error}}; key is still"), |()| "key is".to_string());
+            println!("{{still}} [{{:#04x}}, {{:#04x}}]", key[0], key[1]);
+        }}
+        fn main() {{
+            let mut key = [0; 2];
+        {lines}}}
+        """)
+    assert runs([over_crate(tmp_path, "snippet.rs")]).splitlines() == [told for _, told in calls] and len(calls) == 2
+
+
+def over_crate(folder, source):
+    """Builds a program over our Rust crate, and returns it."""
+    own = [RUSTC, "--edition", "2021", "--out-dir", folder]
+    features = [word for it in ("std", "alloc") for word in ("--cfg", f'feature="{it}"')]
+    runs([*own, *features, "--crate-type", "rlib", "--crate-name", "faster_hex", TOP / "bindings/rust/src/lib.rs"])
+    runs([*own, "--extern", f"faster_hex={folder}/libfaster_hex.rlib", folder / source])
+    return folder / source.removesuffix(".rs")
+
+
+def test_snippet_of_the_crate(tmp_path):
+    """The page of our Rust crate has a snippet with an assertion."""
+    needs(RUSTC)
+    block, = re.findall(r"^```rust\n(.*?)^```$", (TOP / "bindings/rust/README.md").read_text(), re.M | re.S)
+    assert "assert_eq!" in block
+    (tmp_path / "snippet.rs").write_text(f"fn main() {{\n{block}}}\n")
+    runs([over_crate(tmp_path, "snippet.rs")], out="")
 
 
 @pytest.mark.parametrize("source, options", [("c", "-std=c99"), ("cpp", "-std=c++17 -Wold-style-cast")])

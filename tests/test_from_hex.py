@@ -1,5 +1,5 @@
-"""The tables of docs/from-hex.md. Each line has an expression, a pattern or an attribute for another library and one for
-ours. Programs that have the ones and the others must do the same."""
+"""The tables of docs/from-hex.md. Each line has an expression, a pattern or an attribute for another library and one
+for ours. Programs that have the ones and the others must do the same."""
 import re
 
 import pytest
@@ -55,7 +55,8 @@ int main(void) {
 def program(which):
     """The program by `hex`, or by our crate."""
     made = [row[which] for row in OF_HEX]
-    lines = [f'    println!("{{:?}}", {it});' if "to_slice" not in row[0] else f"    {it};" for row, it in zip(OF_HEX, made)]
+    printed = lambda it: f'    println!("{{:?}}", {it});'
+    lines = [printed(it) if "to_slice" not in row[0] else f"    {it};" for row, it in zip(OF_HEX, made)]
     for calls, row in zip(REFUSED, OF_ERRORS):
         lines.append(f'    println!("{{}}", matches!({calls[which]}, Err({row[which]})));')
     fields = [f"    {row[1 + which]}\n    it{at}: {row[0]},\n" for at, row in enumerate(OF_SERDE)]

@@ -76,9 +76,10 @@ def functions(path):
 @pytest.mark.quick
 def test_functions():
     """The toolchain silently ignores the mark `inline` if a function would become very large, and LLVM decides about
-    functions without a mark. A function that was part of its callers and is called now slows short calls down. If that is
-    meant, `functions.txt` gets its name."""
-    listed = [it.split() for it in (TOP / "tests/functions.txt").read_text().splitlines() if it[:1] != "#"]
+    functions without a mark. A function that was part of its callers and is called now slows short calls down. If that
+    is meant, `functions.txt` gets its name."""
+    text = (TOP / "tests/functions.txt").read_text()
+    listed = [it.split() for it in re.sub("^#.*\n", "", text, flags=re.M).replace("\n  ", " ").splitlines()]
     assert [[it.stem, *functions(it)] for it in sorted(GENERATED.glob("*.s"))] == listed
 
 

@@ -5,8 +5,8 @@ import re
 
 import pytest
 
-from commands import (ARM_CC, BY_SYSTEM, HELLO, INSTALLED, PRINTED, SHARED, TOP, VERSION, WINDOWS_CC, copied, has_files, make,
-                      needs, only, own_files, ran, runs)
+from commands import (ARM_CC, BY_RUST, BY_SYSTEM, HELLO, INSTALLED, PRINTED, SHARED, TOP, VERSION, WINDOWS_CC, copied,
+                      has_files, make, needs, only, own_files, ran, runs)
 
 pytestmark = pytest.mark.quick
 # The tools that `make install` may use. None of them builds anything.
@@ -85,11 +85,13 @@ def test_archive_that_was_checked(tmp_path, top):
 
 
 def test_library_of_copied_files(tmp_path):
-    """The package's page names all files of the C library, and the commands that build it into programs in C and C++."""
-    text = (TOP / "docs/release/README.md").read_text()
-    told = re.search(r"^- Without installing: copy (.*?) with their folders .* These are (\d+) files .* Then `(cc .*?)`", text, re.M)
+    """packaging.md names all files of the C library, and the commands that build it into programs in C and C++."""
+    text = (TOP / "docs/packaging.md").read_text()
+    told = re.search(r"^- Without installing: copy (.*?) with their folders .* These are (\d+) files "
+                     ".* Then `(cc .*?)`", text, re.M)
     files = [it.relative_to(TOP) for pattern in re.findall("`(.*?)`", told[1]) for it in TOP.glob(pattern)]
     assert len(files) == int(told[2]) and "LICENSE" in map(str, files)
+    assert f"[{told[2]} files](docs/packaging.md#use-it)" in (TOP / "README.md").read_text()
     copied(files, tmp_path)
     (tmp_path / "prog.c").write_text((TOP / "examples/c/digits.c").read_text())
     runs(told[3].split(), cwd=tmp_path)
@@ -154,13 +156,26 @@ def test_failure(tmp_path, top, prefix):
     assert (tmp_path / "half/lib").is_file() and (tmp_path / "taken/bin/fhex").is_dir()
 
 
+def test_folders_of_files():
+    """packaging.md has a row for each folder into which a file is installed, and a file of each row is installed."""
+    text = (TOP / "docs/packaging.md").read_text().partition("## Where the files go")[2].partition("\n## ")[0]
+    rows = re.findall(r"^(.*) \| `(\w+)(?:/(.*))?`$", text, re.M)
+    folders = {"/".join(filter(None, ({"PREFIX": "", "LIBDIR": "lib"}[top], below))) for _, top, below in rows}
+    crate = "share/faster_hex/rust"
+    found = {it.rpartition("/")[0] for it in INSTALLED}
+    assert folders == {crate if it.startswith(crate) else it for it in found}
+    named = {it for files, *_ in rows for it in re.findall("`([^`*]+)`", files)}
+    known = {it.rpartition("/")[2] for it in INSTALLED} | {it.removeprefix(crate + "/") for it in INSTALLED}
+    assert not [it for it in named if it not in known and not any(file.startswith(it.rstrip("/")) for file in known)]
+
+
 def test_readme(tmp_path, top):
-    """Writes the programs and runs the commands of README.md, up to the section on Rattle. Each section runs in a
-    folder of its own beside the clone. Each command must print what its comment says."""
+    """Writes the programs and runs the commands of README.md. Each section runs in a folder of its own beside the
+    clone. Each command must print what its comment says."""
     needs("pkg-config", "cargo")
     (tmp_path / "bunkmedlar").symlink_to(top)
-    text = (TOP / "README.md").read_text().partition("\n## Rattle\n")[0].replace("$HOME", f"{tmp_path}")
-    for at, part in enumerate(text.split("\n## ")):
+    text = (TOP / "README.md").read_text().replace("$HOME", f"{tmp_path}")
+    for at, part in enumerate(re.split("\n##+ ", text)):
         exports, own = "set -e\n" + "\n".join(re.findall("^export .*", part, re.M)) + "\n", tmp_path / f"{at}"
         (own / "src").mkdir(parents=True)
         for kind, block in re.findall(r"^```(\w+)\n(.*?)^```$", part, re.M | re.S):
@@ -171,6 +186,21 @@ def test_readme(tmp_path, top):
                 place = top if words.startswith("make") or "out/" in words else own
                 done = ran(["bash", "-c", exports + words], cwd=place)
                 assert done.stdout.strip().splitlines()[-1:] == [told] if told else done.returncode == 0, done.stdout
+
+
+def commands_of(page):
+    return re.search(r"^```sh\n(.*?)^```$", (TOP / page).read_text(), re.M | re.S)[1]
+
+
+def test_commands_of_examples(top):
+    needs("c++", "cargo")
+    said = runs(["bash", "-ec", commands_of("examples/README.md")], cwd=top)
+    assert said.endswith(PRINTED + PRINTED + BY_RUST)
+
+
+def test_commands_of_packaging(tmp_path, top):
+    runs(["bash", "-ec", commands_of("docs/packaging.md").replace("$HOME", f"{tmp_path}")], cwd=top)
+    has_files(tmp_path / ".local", INSTALLED)
 
 
 def test_prefix_that_is_relative(tmp_path, top, env):

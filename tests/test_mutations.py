@@ -68,7 +68,7 @@ AT_EVERY_COMMIT = [("half is lost", "u16::from(x) + u16::from(x)", "u16::from(x)
 OTHERS = [
     ("a name is lost", "let twice =", "let twice = 0u16; let _ =", LOST),
     ("a name is lost in two lines", "let double =", "let double = 0u16; let _ =", LOST),
-    ("can not be applied", "x.max(LARGEST)", "x", "error: tiny: {}: .* stands 0 times"),
+    ("can not be applied", "x.max(LARGEST)", "x", "error: tiny: {}: .* must have .* once, and has it 0 times"),
     ("five is six", "    5", "    6", REFUSED),
     ("is let through", "x.min(LARGEST)", "x.min(9)", PROVED),
     ("six is seven", "    6", "    7", REFUSED),
@@ -153,7 +153,7 @@ def test_a_table_is_read_whole(top, tmp_path):
     with (tmp_path / "crates/tiny/mutations").open("a") as table:
         table.write("takes nothing away\n+    6\n")
     done = tries(tmp_path)
-    assert done.stdout == "mutations: crates/tiny/mutations: 'takes nothing away' is not read\n"
+    assert done.stdout == "mutations: crates/tiny/mutations: cannot read the line 'takes nothing away'\n"
 
 
 def test_none_to_try(top, tmp_path):
@@ -162,7 +162,7 @@ def test_none_to_try(top, tmp_path):
     for text in table_of("The prover refuses", "sizes.rt", IN_A_MODULE), "":
         (tmp_path / "crates/tiny/mutations").write_text(text)
         done = tries(tmp_path, "--gate")
-        assert done.returncode == 1 and done.stdout == "mutations: there is none to try\n"
+        assert done.returncode == 1 and done.stdout == "mutations: there is no mutation to try\n"
 
 
 def test_the_gate_is_of_its_own_repository(tmp_path, copy):

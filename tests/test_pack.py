@@ -298,7 +298,7 @@ def test_debian_package(tmp_path, pack, way):
     """Built by debhelper in either way, the package has all files."""
     needs("dh", "dpkg-deb", way)
     top = unpacked(pack, tmp_path)
-    assert f"`dh $@{WAYS[way][0]}`" in (top / "docs/release/README.md").read_text()
+    assert f"`dh $@{WAYS[way][0]}`" in (top / "docs/packaging.md").read_text()
     (top / "debian").mkdir()
     for name, text in DEBIAN.items():
         (top / "debian" / name).write_text(text.format("".join(WAYS[way])))

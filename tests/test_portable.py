@@ -4,8 +4,8 @@ import os
 
 import pytest
 
-from commands import (BESIDE, CC, CRATE, STRICT, TESTS_IN_C, compiled, make_beside, names_build, needs, passes, ran, runs,
-                      tries)
+from commands import (BESIDE, CC, CRATE, STRICT, TESTS_IN_C, compiled, make_beside, names_build, needs, passes, ran,
+                      runs, tries)
 from packages import OF_SERDE, lacking, packed, without
 
 # A compiler, the command that runs its programs, and the folder of the library.

@@ -44,7 +44,7 @@ def differing(program, log):
     calls = re.findall(r"^faster_hex_(\w+)(\(\d\)) (\d+)$", runs([program]), re.M)
     first, *others = (traces(program, seed, log) for seed in SEEDS)
     if {len(calls)} != {len(it) for it in (first, *others)}:
-        return ["not each call stands between two marks"]
+        return ["a call lacks the mark before it or after it"]
     return [
         f"{name}{word} of {length}: {difference(program, one, other)}"
         for at, ((name, word, length), one) in enumerate(zip(calls, first))

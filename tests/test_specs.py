@@ -1,6 +1,6 @@
-"""Whether the links of all pages lead somewhere, whether specs/inside/ has exactly the definitions that no public
-contract uses, and whether the definitions that CALLING.md, design.md, theorem.md and definitions.md name exist. Uses
-are found by the words of contracts."""
+"""Whether the links of all pages lead somewhere, and some pages are as short as they should be, whether specs/inside/
+has exactly the definitions that no public contract uses, and whether the definitions that CALLING.md, design.md,
+theorem.md and definitions.md name exist. Uses are found by the words of contracts."""
 import functools
 import re
 
@@ -100,6 +100,18 @@ def headings(page):
     """The names by which links reach the headings of a page."""
     heads = re.findall(r"^#+ (.*)", re.sub(r"^```.*?^```$", "", page.read_text(), flags=re.M | re.S), re.M)
     return {re.sub(r"[^\w -]", "", it).lower().replace(" ", "-") for it in heads}
+
+
+def test_lengths():
+    """The front page can be read in some minutes, and the page on style is one page."""
+    front, style = ((TOP / it).read_text() for it in ("README.md", "docs/style.md"))
+    assert front.count("\n") <= 140 and len(front.split()) <= 1200 and style.count("\n") <= 40
+
+
+def test_snippet_of_style():
+    """The example is in the crate for Rust as the page has it."""
+    block, = re.findall(r"^```rust\n(.*?)^```$", (TOP / "docs/style.md").read_text(), re.M | re.S)
+    assert any(block in it.read_text() for it in TOP.glob("bindings/rust/src/*.rs"))
 
 
 def test_links():

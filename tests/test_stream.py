@@ -17,7 +17,8 @@ USAGE = b"usage: fhex-stream encode|encode-lines|decode\n"
 THIS_VERSION = b"fhex-stream %s\n" % VERSION.encode()
 INVALID = b"fhex-stream: invalid hex byte 0x%02x at index %d\n"
 ODD = b"fhex-stream: hex input length must be even\n"
-NOT_READ, NOT_WRITTEN, NO_MEMORY = (b"fhex-stream: %s\n" % it for it in (b"read failed", b"write failed", b"out of memory"))
+FAILURES = b"read failed", b"write failed", b"out of memory"
+NOT_READ, NOT_WRITTEN, NO_MEMORY = (b"fhex-stream: %s\n" % it for it in FAILURES)
 # The bytes of one read of `decode`, of a block from which white space is removed, and of a vector.
 READ, BLOCK, LANES = 16384, 2048, 32
 SPACES = b" \t\n\r\f"
@@ -220,9 +221,9 @@ def test_full_disk(stream, word, given, status):
 def test_streams_that_are_closed(stream, word, how, status, err):
     """The status stays the same if the message can't be written. If the reader of a pipe has ended, the program ends by
     SIGPIPE, without a message."""
-    said = f"{stream} {word} {how}; echo ${{PIPESTATUS[0]}} >&3" if how[0] == "|" else f"{stream} {word} {how}; echo $? >&3"
-    given = "00" * 100_000
-    done = subprocess.run(["bash", "-c", f"exec 3>&1; {{ {said}; }} >/dev/null"], input=given.encode(), capture_output=True)
+    ended = "${PIPESTATUS[0]}" if how[0] == "|" else "$?"
+    said = f"exec 3>&1; {{ {stream} {word} {how}; echo {ended} >&3; }} >/dev/null"
+    done = subprocess.run(["bash", "-c", said], input=b"00" * 100_000, capture_output=True)
     assert (done.stdout, done.stderr) == (b"%d\n" % status, err)
 
 

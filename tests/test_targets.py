@@ -129,8 +129,8 @@ def test_header(copy, name, old, new, told):
 
 @pytest.mark.parametrize("system", SYSTEMS)
 def test_systems(system):
-    """`make` builds with assembly exactly where assembly.h has some, also with options that change the processor. On other
-    systems and processors the libraries are plain C, and there is no fhex."""
+    """`make` builds with assembly exactly where assembly.h has some, also with options that change the processor. On
+    other systems and processors the libraries are plain C, and there is no fhex."""
     needs("clang")
     target, *words = system.split()
     compiler, (folder, has_programs) = f"clang -target {target}", SYSTEMS[system]
@@ -188,7 +188,8 @@ def test_tests_without_the_toolchain(copy, tmp_path):
         assert done.returncode == 0 and done.stdout.endswith("these take the Rattle toolchain\n"), done.stdout
         assert ("there is no pytest: " in done.stdout) == (not has_pytest)
         has_quick = {it.name for it in copy.glob("tests/test_*.py") if "mark.quick" in it.read_text()}
-        assert {*re.findall(r"^given -q -m quick tests/(\S+)$", done.stdout, re.M)} == (has_quick if has_pytest else set())
+        given = {*re.findall(r"^given -q -m quick tests/(\S+)$", done.stdout, re.M)}
+        assert given == (has_quick if has_pytest else set())
         for name in "pytest", "rt":
             (tmp_path / "tools" / name).write_text('#!/bin/sh\necho "given $*"\n')
         (tmp_path / "tools/pytest").chmod(0o755)
@@ -239,7 +240,8 @@ def test_copies_of_vendor(tmp_path):
         assert {*found} == PAGES
         for name, text in found.items():
             for path, part in re.findall(r"\]\((?!\w+://)([^)#]*)#?([^)]*)\)", text):
-                assert {path or name} <= PAGES | {*callers} and (not part or part in anchors(found[path or name])), (name, path, part)
+                to = path or name
+                assert to in PAGES | {*callers} and (not part or part in anchors(found[to])), (name, path, part)
         told = (tmp_path / "crates" / last / "VERSION").read_text()
         assert re.fullmatch(rf"Bunkmedlar {VERSION}(, commit [0-9a-f]+(-dirty)?)?\n", told), told
         ignored = [it.read_text() for it in tmp_path.glob("crates/*/.gitignore")]

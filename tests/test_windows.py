@@ -69,8 +69,8 @@ def test_registers(tmp_path, windows):
 
 
 def test_build_that_moves_the_stack(tmp_path, windows):
-    """A function of the build for x86-64-v2 moves the stack. A newer processor does not use this build, so the choice of
-    a build is replaced."""
+    """A function of the build for x86-64-v2 moves the stack. A newer processor does not use this build, so the choice
+    of a build is replaced."""
     needs("wine")
     text, taken = (CRATE / "dispatch.c").read_text(), "level_of(processor())"
     assert text.count(taken) == 1
@@ -122,7 +122,8 @@ def test_builds_taken_for(target):
 @pytest.mark.parametrize("system", SYSTEMS)
 @pytest.mark.parametrize("processor", ["x86_64", "aarch64"])
 def test_systems_of_builds(processor, system):
-    """C and Rust use the assembly exactly on the systems that README.md lists. On Windows that is mingw for x86-64."""
+    """C and Rust use the assembly exactly on the systems that packaging.md lists. On Windows that is mingw for
+    x86-64."""
     needs("clang", RUSTC)
     named, has = f"{processor}-{system}", SYSTEMS[system] and (processor, system) != ("aarch64", "pc-windows-gnu")
     target = {"apple-darwin": "apple-macos11", "apple-ios": "apple-ios14"}.get(system, system)

@@ -62,8 +62,8 @@ static bool has(unsigned word, unsigned bits) {
     return (word & bits) == bits;
 }
 
-/* The level of x86-64 that a processor and its system have: 4, 3 or 2, or 5 for level 4 with AVX-512 VBMI. For the first
- * level it is 0. */
+/* The level of x86-64 that a processor and its system have: 4, 3 or 2, or 5 for level 4 with AVX-512 VBMI. For the
+ * first level it is 0. */
 static unsigned char level_of(struct processor it) {
     unsigned basic = it.highest >= 1 ? it.basic : 0, wide = it.highest >= 7 ? it.wide : 0;
     unsigned extended = it.highest_extended >= 0x80000001 ? it.extended : 0;

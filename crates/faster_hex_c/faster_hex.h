@@ -1,12 +1,5 @@
-/* Converts bytes to hex digits and back.
- *
- * `make install` installs this header, libfaster_hex.so and libfaster_hex.a. To compile a program and link it with the
- * shared library, or with the archive:
- *
- *     cc prog.c $(pkg-config --cflags --libs faster_hex)
- *     cc prog.c $(pkg-config --cflags faster_hex) $(pkg-config --variable=archive faster_hex)
- *
- * C++17 can include faster_hex.hpp. It has encode and decode for types of C++, and throws errors as exceptions.
+/* Converts bytes to hex digits and back. faster_hex(3) says how to compile and link. C++17 can include faster_hex.hpp,
+ * which has encode and decode for types of C++, and throws errors as exceptions.
  *
  * Example, which decodes a key of 16 bytes from `len` digits at `text`:
  *
@@ -21,19 +14,13 @@
  *         printf("%zu bytes\n", answer.number);
  *     }
  *
- * The library for x86-64 runs on every x86-64 processor. It uses AVX-512, AVX2 or SSE4.2 if the processor has
- * them. On aarch64 it uses NEON. There is assembly for Linux, FreeBSD, NetBSD and macOS, and on x86-64 for
- * Windows by mingw. For other processors and systems the library is plain C. Plain C is not proved, and is tested for
- * some processors.
- *
  * These rules hold for every call, unless the call says otherwise:
  *
  * - The source is `len` bytes at `src`. The destination is `room` bytes at `dst`. A pointer may be NULL if its
  *   length is 0. Nothing else of the caller's memory is read or written.
  * - Source and destination may be adjacent, but they must not overlap. No alignment is required.
- * - The answer reports the first error, in the order that the call lists. After a call that reports an error, the
- *   destination holds what it held before. A call that encodes or decodes without an error writes to the front of the
- *   destination and leaves the rest unchanged.
+ * - A call that fails reports the first error, in the order that the call lists, and leaves the destination unchanged.
+ *   A call that encodes or decodes writes to the front of the destination and leaves the rest unchanged.
  * - No call keeps a pointer, allocates memory or changes any state. On x86-64 the library has one byte of
  *   state, which records what the processor supports. It is written when the library is loaded.
  * - Calls may run in many threads at the same time, also on the same source, if no destination overlaps what
@@ -42,30 +29,9 @@
  *   does not export the calls.
  * - gcc and clang warn if a result that says whether a call failed is not used.
  *
- * What is known of the code:
- *
- * - Proved: what each call that checks, searches or converts returns and writes, for `len` and `room` below 2^63. The
- *   proof is about the source code. The machine code is compiled from it, and the proof does not cover the machine
- *   code.
- * - Checked for all bytes and every length: a tool of the repository executes the machine code symbolically, that is,
- *   with a source whose length and bytes are unknown. It was run on one archive, which gcc built on Linux. FreeBSD and
- *   NetBSD use the same assembly. The check covers the builds whose names begin with x86-64-v, and the calls
- *   without groups. For these, the results are right, and a call that reports an error has written nothing, not even
- *   for a while. The code reads only the source, its stack, its constants and its byte of state. It writes only the
- *   destination and its stack. This also holds if an empty source or destination is NULL. For the calls with groups in
- *   the builds for x86-64-v2 and x86-64-v3, the same is checked for sources of up to 32 bytes.
- * - Keys: the same tool checks which addresses and branches depend on the bytes of the source. In a call that encodes
- *   without groups, no address and no branch depends on them. When a call without groups checks, decodes or searches
- *   valid digits, the only such branches ask whether all digits of one part of the source are valid. They go the same
- *   way for all valid digits. So use these calls for keys, if faster_hex_build names one of these three builds.
- * - Not constant time: the baseline build, which is the one for x86-64 without a level. It looks bytes up in tables.
- *   It runs on processors without x86-64-v2, and for calls that are made before the library's constructor has run. The
- *   constructor is a function that runs when the library is loaded. In every build a call that must find the index of
- *   an invalid byte uses a table too. The grouped calls, the machine code for Windows and macOS, and processors other
- *   than x86-64 were not examined for this.
- * - Only tested, on Linux: the machine code of the other builds, and of the calls with groups for longer sources. The
- *   machine code for Windows is tested under wine. On FreeBSD, NetBSD and macOS the library was only assembled, and
- *   never run. Only tests show that calls allocate nothing and may run in threads.
+ * What is known: the source code is proved to return and write what this header says, for lengths below 2^63. The
+ * assembly compiled from it is tested, and on Linux from x86-64-v2 on it was also checked against a definition of hex.
+ * Where there is no assembly, the library is plain C, which is not proved. For keys, see faster_hex(3).
  */
 #ifndef FASTER_HEX_H
 #define FASTER_HEX_H
@@ -97,7 +63,7 @@
 #define FASTER_HEX_GROUPED_LEN(n, every) \
     (FASTER_HEX_ENCODED_LEN(n) + ((n) == 0 ? FASTER_HEX_SIZE(0) : (FASTER_HEX_SIZE(n) - 1) / (every)))
 
-/* Stands before each call whose result must be used. The result says whether the call failed. */
+/* Marks each call whose result must be used, because it says whether the call failed. */
 #ifdef __GNUC__
 #define FASTER_HEX_MUST_USE __attribute__((warn_unused_result))
 #else
@@ -199,12 +165,11 @@ const char *faster_hex_status_text(uint8_t status);
  * check that the code was made from the proved sources. Returns a static string; do not free it. */
 const char *faster_hex_version(void);
 
-/* Names the build that the next call uses, so that a program can refuse to handle keys where the library is not
- * constant time: "x86-64", "x86-64-v2", "x86-64-v3", "x86-64-v4", "x86-64-vbmi", which is "x86-64-v4" with AVX-512
- * VBMI, "aarch64" or "portable", which is plain C. Later versions may have other builds. Calls that the builds for
- * AVX-512 do not have use the build "x86-64-v3". The rules for keys above were checked on Linux, for the builds whose
- * names begin with "x86-64-v". Until the library's constructor has run, calls use the build "x86-64", and this is the
- * text. Returns a static string; do not free it. */
+/* Names the build that the next call uses: "x86-64", "x86-64-v2", "x86-64-v3", "x86-64-v4", "x86-64-vbmi", which is
+ * "x86-64-v4" with AVX-512 VBMI, "aarch64" or "portable", which is plain C. Later versions may have other builds. Calls
+ * that the builds for AVX-512 do not have use the build "x86-64-v3". While the program is being loaded, calls may still
+ * use the build "x86-64". A program can ask before it handles keys, because only the builds whose names begin with
+ * "x86-64-v" were checked to be constant time, on Linux. Returns a static string; do not free it. */
 const char *faster_hex_build(void);
 
 #ifdef __clang__

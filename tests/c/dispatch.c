@@ -107,7 +107,8 @@ static void here(void) {
     bool has_avx2 = __builtin_cpu_supports("avx2"), has_avx512 = __builtin_cpu_supports("avx512bw");
     bool has_vbmi = __builtin_cpu_supports("avx512vbmi");
     is_level("the constructor's level", level, processor(), level);
-    is_level("the compiler's level", level, processor(), has_vbmi ? 5 : has_avx512 ? 4 : has_avx2 ? 3 : level < 3 ? level : 0);
+    is_level("the compiler's level", level, processor(),
+             has_vbmi ? 5 : has_avx512 ? 4 : has_avx2 ? 3 : level < 3 ? level : 0);
 }
 
 /* The name of the build that calls use at each level. */

@@ -1,5 +1,5 @@
-/* Makes one call with wrong arguments, which a sanitizer must report, or with right ones. Then it ends with status 0. In
- * the races, another thread writes the source or reads the destination while the call may run.
+/* Makes one call with wrong arguments, which a sanitizer must report, or with right ones. Then it ends with status 0.
+ * In the races, another thread writes the source or reads the destination while the call may run.
  * Usage: faults none|short-destination|short-source|short-invalid|freed|unwritten|unwritten-invalid
  *        faults race-source|race-destination */
 #include <pthread.h>

@@ -239,7 +239,8 @@ macro_rules! modules {
             }
         }
 
-        #[doc = concat!("An `Option` of bytes, in the format of [`", stringify!($name), "`](crate::", stringify!($name), ").")]
+        #[doc = concat!("An `Option` of bytes, in the format of [`", stringify!($name), "`](crate::",
+            stringify!($name), ").")]
         ///
         /// ```
         /// use serde::{Deserialize, Serialize};
@@ -283,7 +284,7 @@ macro_rules! modules {
             ///
             /// # Errors
             ///
-            /// Those of the module without `option_`. A string that is refused is an error, not `None`.
+            /// Those of the module without `option_`. A string that is invalid is an error, not `None`.
             pub fn deserialize<'de, D, T>(deserializer: D) -> Result<Option<T>, D::Error>
             where
                 D: Deserializer<'de>,

@@ -56,6 +56,12 @@ assemble!("elf.inc");
 // build from a static.
 macro_rules! calls {
     ($($call:ident($($word:ident: $kind:ty),*) -> $answer:ty, $v4:literal $v5:literal;)*) => { $(
+        /// Makes the call in the build for aarch64.
+        ///
+        /// # Safety
+        ///
+        /// `src` points to `len` bytes that may be read. `dst`, of a call that has one, points to `room` bytes that
+        /// may be written and are no part of the source. If a length is 0, its pointer is not used.
         #[cfg(target_arch = "aarch64")]
         #[inline]
         pub unsafe fn $call($($word: $kind),*) -> $answer {
@@ -64,9 +70,16 @@ macro_rules! calls {
                 fn only($($word: $kind),*) -> $answer;
             }
             static BUILD: unsafe extern "C" fn($($kind),*) -> $answer = only;
+            // SAFETY: the caller promises what the build needs.
             BUILD($($word),*)
         }
 
+        /// Makes the call in the build for the processor.
+        ///
+        /// # Safety
+        ///
+        /// `src` points to `len` bytes that may be read. `dst`, of a call that has one, points to `room` bytes that
+        /// may be written and are no part of the source. If a length is 0, its pointer is not used.
         #[cfg(target_arch = "x86_64")]
         #[inline]
         pub unsafe fn $call($($word: $kind),*) -> $answer {
@@ -83,9 +96,14 @@ macro_rules! calls {
                 fn v5($($word: $kind),*) -> $answer;
             }
             type Build = unsafe extern "sysv64" fn($($kind),*) -> $answer;
-            // The address of a `Build`. The first call replaces it by that of the build for the processor.
+            // The address of a `Build`. The first call replaces it by the address of the build for the processor.
             static BUILD: AtomicPtr<()> = AtomicPtr::new(first as *const () as *mut ());
 
+            /// Finds the build for the processor, and makes the call in it.
+            ///
+            /// # Safety
+            ///
+            /// The same as for the function around it.
             #[cold]
             #[inline(never)]
             unsafe extern "sysv64" fn first($($word: $kind),*) -> $answer {
@@ -97,9 +115,12 @@ macro_rules! calls {
                     _ => v1,
                 };
                 BUILD.store(build as *mut (), Relaxed);
+                // SAFETY: the caller promises what the build needs, and the processor has its instructions.
                 build($($word),*)
             }
 
+            // SAFETY: `BUILD` has the address of `first` or of a build, and each of them is a `Build`. The caller
+            // promises what it needs.
             transmute::<*mut (), Build>(BUILD.load(Relaxed))($($word),*)
         }
     )* };

@@ -37,7 +37,7 @@ fn result_of(answer: Answer) -> Result<usize, Error> {
     }
 }
 
-/// The error of a refusal. No call here gets a status about policies or groups. This is a function of its
+/// The error of a call that failed. No call here gets a status about policies or groups. This is a function of its
 /// own, so that a call that succeeds makes only one test.
 #[cold]
 fn error_of(answer: Answer) -> Error {
@@ -67,7 +67,7 @@ pub fn check(src: &[u8], case: CheckCase) -> bool {
         CheckCase::Lower => builds::check_lower,
         CheckCase::Upper => builds::check_upper,
     };
-    // SAFETY: a call reads only the slice.
+    // SAFETY: the pointer and the length are those of the slice.
     unsafe { call(src.as_ptr(), src.len()) }
 }
 
@@ -75,8 +75,7 @@ pub fn check(src: &[u8], case: CheckCase) -> bool {
 #[inline]
 pub fn encode(src: &[u8], dst: &mut [MaybeUninit<u8>], upper: bool) -> Result<usize, Error> {
     let (from, len, to, room) = (src.as_ptr(), src.len(), dst.as_mut_ptr().cast(), dst.len());
-    // SAFETY: a call reads only the one slice and writes only to the other. A slice that can be written
-    // overlaps no other.
+    // SAFETY: the pointers and lengths are those of the slices, and a slice that can be written overlaps no other.
     result_of(unsafe { builds::encode(from, len, to, room, upper) })
 }
 

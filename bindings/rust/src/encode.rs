@@ -14,6 +14,7 @@ use crate::{calls, Error};
 /// The caller writes only initialized bytes there.
 #[inline]
 pub(crate) unsafe fn room(dst: &mut [u8]) -> &mut [MaybeUninit<u8>] {
+    // SAFETY: both types have the same layout, and the caller leaves each byte initialized.
     slice::from_raw_parts_mut(dst.as_mut_ptr().cast(), dst.len())
 }
 

@@ -2,20 +2,20 @@
 
 use core::fmt;
 
-/// Why a call refused its source. If several things are wrong, it is the first in the order that the call
+/// Why a call failed. If several things are wrong, it is the first in the order that the call
 /// lists.
 ///
 /// ```
 /// use faster_hex::{hex_decode, Error};
 ///
-/// let refused = hex_decode(b"0011", &mut [0; 1]).unwrap_err();
-/// assert!(matches!(refused, Error::OutputTooSmall { required: 2, .. }));
-/// assert_eq!(refused.to_string(), "output requires at least 2 bytes");
+/// let error = hex_decode(b"0011", &mut [0; 1]).unwrap_err();
+/// assert!(matches!(error, Error::OutputTooSmall { required: 2, .. }));
+/// assert_eq!(error.to_string(), "output requires at least 2 bytes");
 /// ```
 #[derive(Clone, Copy, Debug, PartialEq, Eq, Hash)]
 #[non_exhaustive]
 pub enum Error {
-    /// A byte that is not a hex digit, or a letter in a case that the policy refuses.
+    /// A byte that is not a hex digit, or a letter in a case that the policy does not accept.
     #[non_exhaustive]
     InvalidChar {
         /// The index of the first such byte in the source, from 0.

@@ -103,7 +103,7 @@ impl<'a> Hex<'a> {
     }
 }
 
-/// What stands before the digits.
+/// The text before the digits.
 fn front_of(f: &fmt::Formatter<'_>) -> &'static str {
     match (f.sign_plus(), f.alternate()) {
         (true, true) => "+0x",

@@ -1,10 +1,8 @@
 //! Turns bytes into hex digits and back, by the calls of the Rust crate `faster-hex` 1.0.0, with its names and
 //! signatures.
 //!
-//! On x86-64 and aarch64 under Linux, FreeBSD, NetBSD and macOS, and on x86-64 under Windows with the GNU
-//! toolchain, the code that tests, encodes and decodes is assembly. It was compiled from sources that are
-//! proved for every input. The Rust code around it is tested, and not proved. On all other targets, such as
-//! riscv64 and wasm32, the calls are plain Rust, which is tested, and **not proved**.
+//! The code that tests, encodes and decodes is assembly, which was compiled from sources that are proved for every
+//! input. The Rust code around it is tested, and not proved. [Some targets](#platforms) have no assembly.
 //!
 //! ```
 //! use faster_hex::{hex_decode, hex_encode};
@@ -40,11 +38,11 @@
 //!
 //! - Each byte becomes two digits, in the order of the bytes. Leading zeros stay, because the digits
 //!   are not read as a number.
-//! - Decoding takes all of its source: an even number of digits. It refuses `0x`, white space, separators and
-//!   everything else that is not a digit. You need not test the digits first.
+//! - Decoding takes all of its source: an even number of digits. `0x`, white space, separators and everything else
+//!   that is no digit are errors. You need not test the digits first.
 //! - An empty source is valid.
-//! - A refusal is an [`Error`]. If several things are wrong, the call names the first in the order that its
-//!   page lists. [`hex_check`] tests each byte, but not how many there are. So it accepts an odd number of digits.
+//! - If several things are wrong, a call returns the [`Error`] that comes first in the order that its page lists.
+//! - [`hex_check`] tests each byte, but not how many there are, so it accepts an odd number of digits.
 //!
 //! # Who owns what
 //!
@@ -84,22 +82,20 @@
 //!   may be missing add `default`: `#[serde(default, with = "faster_hex::option_nopfx_lowercase")]`.
 //! - `array` inside a module is for arrays: `#[serde(with = "faster_hex::nopfx_lowercase::array")]`.
 //! - A field of any other type is collected by `FromIterator<u8>`, as a `Vec<u8>` is. `deserialize_bounded` has
-//!   a bound `MAX`. It refuses a value of more than `MAX` bytes before it decodes any. It bounds the bytes, not
+//!   a bound `MAX`, and fails for a value of more than `MAX` bytes before it decodes any. It bounds the bytes, not
 //!   what the data format or your type allocates.
 //!
 //! # Platforms
 //!
-//! | Target | What a call runs |
-//! |---|---|
-//! | x86-64, Linux, FreeBSD, NetBSD, macOS, Windows (GNU) | one of five builds: for x86-64, x86-64-v2, x86-64-v3 with AVX2, and x86-64-v4 and x86-64-vbmi, which check and decode with AVX-512 and AVX-512 VBMI |
-//! | aarch64, Linux, FreeBSD, NetBSD, macOS | one build, with NEON |
-//! | all others, also bare metal and Miri | plain, safe Rust, which is not proved. A test compares it with the builds |
+//! There is assembly for x86-64 and aarch64 on Linux, FreeBSD, NetBSD and macOS, and for x86-64 on Windows with the
+//! GNU toolchain. On all other targets, also on bare metal and under Miri, the calls are plain, safe Rust, which is
+//! tested and **not proved**.
 //!
-//! On x86-64 the first call asks the processor which build it can run. All builds return the
-//! same results, at different speeds. On processors without x86-64-v2 the crate uses the build for x86-64
-//! without a level, which looks bytes up in tables. Do not use the crate for keys there. [`hex_build`] says
-//! what was examined on other processors and systems. The crate needs Rust 1.81 or later.
-//! One program may contain several versions of this crate, and also the library for C.
+//! On x86-64 the first call asks the processor which of five builds it can run: x86-64, x86-64-v2, x86-64-v3 with
+//! AVX2, or x86-64-v4 and x86-64-vbmi, which check and decode with AVX-512 and AVX-512 VBMI. All builds return the
+//! same results. The first one looks bytes up in tables, so do not use it for keys. [`hex_build`] names the build, and
+//! says what was examined. The crate needs Rust 1.81 or later. One program may contain several versions of this crate,
+//! and also the library for C.
 //!
 //! The README of the crate says how to use it in place of `faster-hex`, and what `faster-hex` has that this
 //! crate lacks.

@@ -40,8 +40,8 @@ fn read_piece(plan: Backend, digits: &[u8], bytes: &mut [u8], case: CheckCase)
     read_long_piece(plan, digits, bytes, case);
 }
 
-// Does the same for a piece of at least `CALL_FROM` bytes. It is not inlined, because decoding has
-// an implementation for each range of lengths.
+// Does the same as `read_piece` for at least `CALL_FROM` bytes. It is not inlined, because decoding
+// has an implementation for each range of lengths.
 #[inline(never)]
 fn read_long_piece(plan: Backend, digits: &[u8], bytes: &mut [u8], case: CheckCase)
     requires twice { length digits.now ≡ 2 * length bytes.old }

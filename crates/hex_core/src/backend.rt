@@ -150,8 +150,8 @@ impl Backend {
         }
     }
 
-    // Does the same for all plans except `plain`. It is a function of its own for the reason given
-    // at `decode_outlined`.
+    // Does the same as `encode` for all plans except `plain`. It is a function of its own for the
+    // reason given at `decode_outlined`.
     #[inline(never)]
     fn encode_outlined(self, src: &[u8], dst: &mut [u8], upper: bool)
         requires { length dst.old ≡ 2 * length src.now }
@@ -211,8 +211,8 @@ impl Backend {
         }
     }
 
-    // Does the same for all plans except `plain`. It is a function of its own, because `decode`
-    // would not be inlined if it contained the implementations of these plans.
+    // Does the same as `decode` for all plans except `plain`. It is a function of its own, because
+    // `decode` would not be inlined if it contained the implementations of these plans.
     #[inline(never)]
     fn decode_outlined(self, src: &[u8], dst: &mut [u8], case: CheckCase) -> bool
         requires { length src.now ≡ 2 * length dst.old }

@@ -67,8 +67,8 @@ pub fn put_digits<S: Sink>(
     }
 }
 
-// Does the same without a group. A short source needs one put, so it has no loop and a smaller
-// buffer.
+// Does the same as `put_digits` without a group. A short source needs one put, so it has no loop and
+// a smaller buffer.
 fn put_text<S: Sink>(sink: &mut S, bytes: &[u8], upper: bool) -> Result<(), WriteFault>
     ensures { Puts (S.state sink.old) (S.state sink.new) result (text upper bytes.now) }
 {
@@ -78,7 +78,7 @@ fn put_text<S: Sink>(sink: &mut S, bytes: &[u8], upper: bool) -> Result<(), Writ
     put_parts(sink, bytes, upper, None, &mut [0; 2 * ENCODE_CHUNK])
 }
 
-// Does the same in groups.
+// Does the same as `put_digits` in groups.
 fn put_grouped<S: Sink>(
     sink: &mut S,
     bytes: &[u8],

@@ -219,8 +219,8 @@ impl Decoder {
         Ok(self.feed_blocks(src, dst))
     }
 
-    // Does the same for a chunk that is not refused, block by block. Returns the number of bytes
-    // written.
+    // Does the same as `feed_long` for a chunk without an error, block by block. Returns the number
+    // of bytes written.
     fn feed_blocks(&mut self, src: &[u8], dst: &mut [u8]) -> usize
         requires skips { self.old.reading.skips ≡ true }
         requires counted { position_of self.old + length src.now < 2 ^ 64 }

@@ -27,9 +27,9 @@ pub fn copy_unspaced(src: &[u8], block: &mut [u8]) -> usize
     copy_each(src, LANES * blocks, block, count)
 }
 
-// Does the same for the `LANES` bytes from index `start` on, which it copies after the `had` bytes
-// in the block. A run ends before each byte that may be white space. That byte is copied only if it
-// is not white space.
+// Does the same as `copy_unspaced` for the `LANES` bytes from index `start` on, which it copies
+// after the `had` bytes in the block. A run ends before each byte that may be white space. That byte
+// is copied only if it is not white space.
 #[inline(always)]
 fn copy_runs(src: &[u8], start: usize, block: &mut [u8], had: usize) -> usize
     requires near { start + 2 * LANES ≤ length src.now }
@@ -65,7 +65,7 @@ fn copy_lanes(src: &[u8], at: usize, block: &mut [u8], count: usize)
     u8x32::from_slice(&src[at..]).copy_to_slice(&mut block[count..]);
 }
 
-// Does the same for the bytes from index `at` on, one after the other.
+// Does the same as `copy_unspaced` for the bytes from index `at` on, one after the other.
 fn copy_each(src: &[u8], at: usize, block: &mut [u8], had: usize) -> usize
     requires at { at ≤ length src.now }
     requires room { length src.now ≤ length block.old }

@@ -26,10 +26,12 @@ unsafe impl GlobalAlloc for Counted {
     unsafe fn alloc(&self, layout: Layout) -> *mut u8 {
         REQUESTS.fetch_add(1, Relaxed);
         BYTES.fetch_add(layout.size(), Relaxed);
+        // SAFETY: the caller promises what the system's allocator needs.
         System.alloc(layout)
     }
 
     unsafe fn dealloc(&self, place: *mut u8, layout: Layout) {
+        // SAFETY: as above.
         System.dealloc(place, layout)
     }
 }
