@@ -7,3 +7,4 @@ pub mod GroupMessage
 pub mod GroupedWriting
 pub mod GroupedReading
 pub mod GroupRule
+pub mod Spaced

@@ -1,0 +1,241 @@
+//! Decoding of digits with white space among them.
+//!
+//! A source is read twice: first all of it is tested, then it is decoded. Both work on runs, which
+//! are the bytes between white space.
+
+ghost use Rattle.std.specs.Prelude.{◌≡◌, ◌≢◌, ◌↔◌, ◌+◌, ◌*◌, ◌<◌, ◌≤◌, ◌∷◌, [], IsSome, IsTrue, None, Some, length, option_map, position, slice_index};
+ghost use Rattle.std.specs.Bool.{MatchBool};
+ghost use Rattle.hex_core.specs.declared.error.Error.TheVariants.{InvalidChar};
+ghost use Rattle.hex_core.specs.Digit.{value};
+ghost use Rattle.hex_core.specs.Search.{first_invalid};
+ghost use Rattle.hex_core.specs.Text.{Spells};
+ghost use Rattle.hex_codec.specs.Spaced.{DecodesSpaced, first_stray, is_solid, unspaced};
+
+use hex_core::{Backend, CheckCase, Error, digit_value};
+use std::simd::prelude::*;
+
+// The number of bytes that are searched at once for the end of a run.
+const LANES: usize = 32;
+
+/// Decodes the digits of `src` into the start of `dst`, if `case` accepts them. Skips ASCII white
+/// space among them, also between the two digits of a pair. Returns the number of bytes written,
+/// which is half the number of digits.
+///
+/// White space is a space, tab, newline, form feed or carriage return. So this function reads what
+/// `xxd -p` and `openssl` print. The bytes of `dst` after the written ones are unchanged. If `src`
+/// has no digits, the result is 0 and nothing changes.
+///
+/// The time depends on where the white space is.
+///
+/// # Errors
+///
+/// The conditions are tested in this order, which is that of [`hex_decode`](crate::hex_decode).
+/// Each error leaves all of `dst` unchanged.
+///
+/// 1. [`Error::OddLength`] if the number of bytes that are not white space is odd.
+/// 2. [`Error::OutputTooSmall`] if `dst` has fewer bytes than half of that number.
+/// 3. [`Error::InvalidChar`] if a byte is neither white space nor an accepted digit. The error has
+///    the first such byte and its index in `src`.
+///
+/// ```rust
+/// let mut buffer = [0xa5; 4];
+/// let written = hex_decode_spaced(b"00 a\r\nBc\tD\n", &mut buffer, CheckCase::None)?;
+/// assert_eq!(rt; written, 3);
+/// assert_eq!(rt; buffer, [0, 0xab, 0xcd, 0xa5]);
+/// ```
+pub fn hex_decode_spaced(src: &[u8], dst: &mut [u8], case: CheckCase) -> Result<usize, Error>
+    ensures answer { DecodesSpaced case src.now dst.old dst.new result }
+{
+    decode_by(Backend::plain(), src, dst, case)
+}
+
+/// Does the same as [`hex_decode_spaced`] by the given plan. The plan changes only the speed.
+///
+/// ```rust
+/// let mut buffer = [0; 2];
+/// let [scalar, ..] = backends();
+/// assert_eq!(rt; decode_by(scalar, b"00 ab\n", &mut buffer, CheckCase::None)?, 2);
+/// assert_eq!(rt; buffer, [0, 0xab]);
+/// ```
+pub fn decode_by(plan: Backend, src: &[u8], dst: &mut [u8], case: CheckCase) -> Result<usize, Error>
+    ensures answer { DecodesSpaced case src.now dst.old dst.new result }
+{
+    let (digits, is_clean) = survey(plan, src, case);
+    if digits % 2 == 1 {
+        return Err(Error::OddLength);
+    }
+    let required = digits / 2;
+    if dst.len() < required {
+        return Err(Error::OutputTooSmall { required });
+    }
+    if !is_clean {
+        return Err(stray_error(src, case));
+    }
+    decode_runs(plan, src, &mut dst[..required], case);
+    Ok(required)
+}
+
+// Returns the number of bytes that are not white space, and whether all of them are digits.
+#[inline(never)]
+fn survey(plan: Backend, src: &[u8], case: CheckCase) -> (usize, bool)
+    ensures count { result.0 ≡ length (unspaced src.now) }
+    ensures clean { IsTrue result.1 ↔ (first_stray case src.now ≡ None) }
+{
+    let mut at = 0;
+    let mut count = 0;
+    let mut is_clean = true;
+    let mut last = 0;
+    'runs: while at < src.len() {
+        if src[at].is_ascii_whitespace() {
+            at += 1;
+            continue;
+        }
+        last = run_len(src, at, last);
+        let (more, are_digits) = survey_run(plan, &src[at..at + last], case);
+        count += more;
+        is_clean &= are_digits;
+        at += last;
+    }
+    (count, is_clean)
+}
+
+// Does the same for a part of a source, which in most cases is a run of digits.
+#[inline(always)]
+fn survey_run(plan: Backend, src: &[u8], case: CheckCase) -> (usize, bool)
+    ensures count { result.0 ≡ length (unspaced src.now) }
+    ensures clean { IsTrue result.1 ↔ (first_stray case src.now ≡ None) }
+{
+    if plan.check(src, case) {
+        return (src.len(), true);
+    }
+    (solid_count(src), first_stray(src, case).is_none())
+}
+
+// Returns the number of bytes that are not white space.
+fn solid_count(src: &[u8]) -> usize
+    ensures { result ≡ length (unspaced src.now) }
+{
+    src.iter()
+        .filter(|byte| !byte.is_ascii_whitespace())
+        .count()
+}
+
+// Returns the index of the first byte that is neither white space nor a digit.
+fn first_stray(src: &[u8], case: CheckCase) -> Option<usize>
+    ensures { result ≡ first_stray case src.now }
+{
+    src.iter().position(|byte| !byte.is_ascii_whitespace() && digit_value(*byte, case).is_none())
+}
+
+// Returns the error for that byte.
+#[cold]
+fn stray_error(src: &[u8], case: CheckCase) -> Error
+    requires { first_stray case src.now ≢ None }
+    ensures { option_map (λ i. InvalidChar i (slice_index src.now i)) (first_stray case src.now) ≡ Some result }
+{
+    let index = first_stray(src, case).unwrap();
+    Error::InvalidChar {
+        index,
+        byte: src[index],
+    }
+}
+
+// Returns how many bytes from index `at` on are worth a try as a run of digits. These are the bytes
+// before the next byte that is at most a space, as all white space is. In most texts the lines have
+// one length, so that of the last run is tried first. Then the processor need not wait for the end
+// of a run to begin with the next one.
+#[inline(always)]
+fn run_len(src: &[u8], at: usize, last: usize) -> usize
+    requires { at < length src.now }
+    ensures some { 0 < result }
+    ensures inside { at + result ≤ length src.now }
+{
+    let left = src.len() - at;
+    if 0 < last && last < left && src[at + last] <= b' ' {
+        return last;
+    }
+    found_run_len(&src[at..])
+}
+
+// Does the same for the start of a source by a search.
+#[inline(never)]
+fn found_run_len(src: &[u8]) -> usize
+    requires { 0 < length src.now }
+    ensures some { 0 < result }
+    ensures inside { result ≤ length src.now }
+{
+    let mut end = 1;
+    'blocks: while src.len() - end >= LANES {
+        let lanes = u8x32::from_slice(&src[end..]);
+        let marks = lanes.simd_le(Simd::splat(b' ')).to_bitmask();
+        if marks != 0 {
+            let found = end + marks.trailing_zeros() as usize;
+            return found.min(src.len());
+        }
+        end += LANES;
+    }
+    match src[end..].iter().position(|byte| *byte <= b' ') {
+        Some(more) => end + more,
+        None => src.len(),
+    }
+}
+
+// Decodes all digits of a source, which are valid, over all of `dst`.
+#[inline(never)]
+fn decode_runs(plan: Backend, src: &[u8], dst: &mut [u8], case: CheckCase)
+    requires clean { first_stray case src.now ≡ None }
+    requires twice { length (unspaced src.now) ≡ 2 * length dst.old }
+    ensures { Spells case (unspaced src.now) dst.new }
+{
+    let mut at = 0;
+    let mut done = 0;
+    let mut last = 0;
+    'runs: while at < src.len() {
+        if src[at].is_ascii_whitespace() {
+            at += 1;
+            continue;
+        }
+        last = run_len(src, at, last);
+        let pairs = (last / 2).min(dst.len() - done);
+        let run = &src[at..at + 2 * pairs];
+        if decode_run(plan, run, &mut dst[done..done + pairs], case) {
+            at += 2 * pairs;
+            done += pairs;
+        } else {
+            // White space is between the two digits, or the last run was a wrong guess.
+            let low = at + 1 + first_solid(&src[at + 1..]).unwrap();
+            dst[done] = pair_byte(src[at], src[low], case);
+            at = low + 1;
+            done += 1;
+            last = 0;
+        }
+    }
+}
+
+// Decodes a run over all of `dst`. Returns false and writes nothing if it has no digits or a byte that
+// is no digit.
+#[inline(always)]
+fn decode_run(plan: Backend, src: &[u8], dst: &mut [u8], case: CheckCase) -> bool
+    requires { length src.now ≡ 2 * length dst.old }
+    ensures { MatchBool result
+        ((0 < length dst.old) × (first_invalid case src.now ≡ None) × Spells case src.now dst.new)
+        (dst.new ≡ dst.old) }
+{
+    !src.is_empty() && plan.decode(src, dst, case)
+}
+
+// Returns the index of the first byte that is not white space.
+fn first_solid(src: &[u8]) -> Option<usize>
+    ensures { result ≡ position is_solid src.now }
+{
+    src.iter().position(|byte| !byte.is_ascii_whitespace())
+}
+
+// Returns the byte of two digits.
+fn pair_byte(high: u8, low: u8, case: CheckCase) -> u8
+    requires high { IsSome (value case high) }
+    requires low { IsSome (value case low) }
+    ensures { Spells case (high ∷ low ∷ []) (result ∷ []) }
+{
+    16 * digit_value(high, case).unwrap() + digit_value(low, case).unwrap()
+}
