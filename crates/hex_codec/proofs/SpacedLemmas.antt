@@ -1,6 +1,6 @@
 -- A source without its white space.
 use Rattle.std.proofs.Common.{◌≡◌, ℕ, suc, ◌+◌, ◌≤◌, Bool, true, false, List, [], ◌∷◌, ◌++◌, length, take, drop, None}
-use Rattle.std.proofs.Common.{Some, get_or, refl, ◌∙◌, ap, arith, not, ◌<◌, ◌*◌, ◌≢◌, slice_index, sym, length-append, take-append-drop}
+use Rattle.std.proofs.Common.{Some, get_or, refl, ◌∙◌, ap, arith, not, ◌<◌, ◌*◌, ◌≢◌, slice_index, sym, length-append, take-append-drop, append-nil, ◌-◌}
 use Rattle.std.specs.Prelude.{◌↔◌, ◌&&◌, IsSome, filter, position}
 use Rattle.std.proofs.Math.Seq.{take-add}
 use Rattle.std.proofs.lemmas.Bool.Decides.{nat_tests}
@@ -15,7 +15,7 @@ use Rattle.hex_core.specs.declared.digit.CheckCase.TheVariants as policy
 use Rattle.hex_core.specs.Digit.{value}
 use Rattle.hex_core.specs.Search.{first_invalid}
 use Rattle.hex_core.specs.Text.{Spells}
-use Rattle.hex_core.proofs.JoinLemmas.{spells-joined}
+use Rattle.hex_core.proofs.JoinLemmas.{spells-joined, valid-both}
 use Rattle.hex_core.proofs.PositionLemmas.{before_none, none_joined, position_none}
 use Rattle.hex_core.proofs.SearchLemmas.{has_value, lacks}
 use Rattle.hex_codec.specs.Spaced.{first_stray, is_solid, is_stray, unspaced}
@@ -75,6 +75,21 @@ solid-first s i first =
     let before = position_none is_solid (take i s) (λ k lt. let inside : k < i = omega (arith, size, lt) in rw (get_or-take i s k 0 inside) (told.2 k inside)) in
     (told.0, filter_more is_solid s i 0 told.0 ∙ rw (none-solid (take i s) before, told.1) refl)
 
+-- ---- lines
+
+-- digits and the white space behind them
+pub line-more : (c : CheckCase) (s : List ℕ) (at len gap : ℕ) → first_invalid c (take len (drop at s)) ≡ None
+    → unspaced (take gap (drop (at + len) s)) ≡ [] → unspaced (take (at + (len + gap)) s) ≡ unspaced (take at s) ++ take len (drop at s)
+line-more c s at len gap valid space =
+    let all : at + len + gap ≡ at + (len + gap) = omega arith in
+    rw all at (unspaced-more (at + len) gap s)
+    ∙ rw (space, append-nil (unspaced (take (at + len) s)), unspaced-more at len s, digits-solid c (take len (drop at s)) valid) refl
+
+pub line-clean : (c : CheckCase) (s : List ℕ) (at len next : ℕ) → first_stray c (take at s) ≡ None → first_invalid c (take len (drop at s)) ≡ None
+    → unspaced (take next s) ≡ unspaced (take at s) ++ take len (drop at s) → first_stray c (take next s) ≡ None
+line-clean c s at len next clean valid line =
+    (none-stray c (take next s)).1 (rw line (valid-both c (unspaced (take at s)) (take len (drop at s)) ((none-stray c (take at s)).0 clean) valid))
+
 -- ---- decoding
 
 -- a byte that is no white space is a digit, where there is no stray
@@ -96,15 +111,6 @@ module _ (s : List ℕ) (at : ℕ) (inside : at < length s) (solid : is_solid (g
       let place : i + 2 ≡ suc (i + 1) = omega arith in
       rw (drop_more s at 0 inside, place, solid, low, get_or-drop (at + 1) s i 0) refl
 
--- more bytes are decoded
-pub decoded-more : (c : CheckCase) (s old new part : List ℕ) (at more done n : ℕ) → Spells c (unspaced (take at s)) (take done old)
-    → Spells c (unspaced (take more (drop at s))) part → take n new ≡ take done old ++ part → Spells c (unspaced (take (at + more) s)) (take n new)
-decoded-more c s old new part at more done n before next is = rw (unspaced-more at more s, is) (spells-joined c _ _ _ _ before next)
-
--- what is put back as it was changes nothing
-pub put-back : (a k : ℕ) (xs ys : List ℕ) → ys ≡ take k (drop a xs) → put_mid a k xs ys ≡ xs
-put-back a k xs ys same = rw same (grind (arith, common_steps))
-
 pub length-put : (a k : ℕ) (xs ys : List ℕ) → a + k ≤ length xs → length ys ≡ k → length (put_mid a k xs ys) ≡ length xs
 length-put a k xs ys inside size = grind (arith, common_steps, inside, size)
 
@@ -114,3 +120,8 @@ pub more-digits : (c : CheckCase) (s dst : List ℕ) (at done : ℕ) → at < le
 more-digits c s dst at done inside solid twice room before =
     let all = solid-next s at inside solid in let size = length-take-le done dst room in
     (omega (arith, all, size, twice, before.twice), omega (arith, all, size, twice, before.twice))
+
+-- the next digits are decoded behind those before them
+pub decoded-more : (c : CheckCase) (s old new digits part : List ℕ) (at next done n : ℕ) → Spells c (unspaced (take at s)) (take done old)
+    → unspaced (take next s) ≡ unspaced (take at s) ++ digits → Spells c digits part → take n new ≡ take done old ++ part → Spells c (unspaced (take next s)) (take n new)
+decoded-more c s old new digits part at next done n before more spelled is = rw (more, is) (spells-joined c _ _ _ _ before spelled)

@@ -3,13 +3,13 @@
 //! A source is read twice: first all of it is tested, then it is decoded. Both work on runs, which
 //! are the bytes between white space.
 
-ghost use Rattle.std.specs.Prelude.{◌≡◌, ◌≢◌, ◌↔◌, ◌+◌, ◌*◌, ◌<◌, ◌≤◌, ◌∷◌, [], IsSome, IsTrue, None, Some, length, option_map, position, slice_index};
+ghost use Rattle.std.specs.Prelude.{◌≡◌, ◌≢◌, ◌↔◌, ◌+◌, ◌*◌, ◌<◌, ◌≤◌, ◌-◌, ◌∷◌, [], drop, take, IsSome, IsTrue, None, Some, length, option_map, position, slice_index};
 ghost use Rattle.std.specs.Bool.{MatchBool};
 ghost use Rattle.hex_core.specs.declared.error.Error.TheVariants.{InvalidChar};
 ghost use Rattle.hex_core.specs.Digit.{value};
 ghost use Rattle.hex_core.specs.Search.{first_invalid};
 ghost use Rattle.hex_core.specs.Text.{Spells};
-ghost use Rattle.hex_codec.specs.Spaced.{DecodesSpaced, first_stray, is_solid, unspaced};
+ghost use Rattle.hex_codec.specs.Spaced.{DecodesLines, DecodesSpaced, first_stray, is_solid, unspaced};
 
 use hex_core::{Backend, CheckCase, Error, digit_value};
 use std::simd::prelude::*;
@@ -84,23 +84,87 @@ fn survey(plan: Backend, src: &[u8], case: CheckCase) -> (usize, bool)
     let mut at = 0;
     let mut count = 0;
     let mut is_clean = true;
-    let mut last = 0;
     'runs: while at < src.len() {
-        if src[at].is_ascii_whitespace() {
-            at += 1;
+        let run = run_len(&src[at..]);
+        let (end, digits) = check_lines(plan, &src[at..], run, case);
+        if end > 0 {
+            at += end;
+            count += digits;
             continue;
         }
-        last = run_len(src, at, last);
-        let (more, are_digits) = survey_run(plan, &src[at..at + last], case);
+        let (more, are_digits) = survey_run(plan, &src[at..at + run], case);
         count += more;
         is_clean &= are_digits;
-        at += last;
+        at += run;
     }
     (count, is_clean)
 }
 
-// Does the same for a part of a source, which in most cases is a run of digits.
+// Checks lines at the start of a source, as long as each has `len` digits. Returns the number of their
+// bytes and of their digits. For lengths that are usual the compiler makes a loop of their own, which
+// does not look at the length again.
+fn check_lines(plan: Backend, src: &[u8], len: usize, case: CheckCase) -> (usize, usize)
+    requires some { 0 < len }
+    requires inside { len ≤ length src.now }
+    ensures inside { result.0 ≤ length src.now }
+    ensures count { result.1 ≡ length (unspaced (take result.0 src.now)) }
+    ensures clean { first_stray case (take result.0 src.now) ≡ None }
+{
+    match len {
+        33..=64 => check_lines_of(plan, src, len, case),
+        65..=128 => check_lines_of(plan, src, len, case),
+        _ => check_lines_of(plan, src, len, case),
+    }
+}
+
 #[inline(always)]
+fn check_lines_of(plan: Backend, src: &[u8], len: usize, case: CheckCase) -> (usize, usize)
+    requires some { 0 < len }
+    requires inside { len ≤ length src.now }
+    ensures inside { result.0 ≤ length src.now }
+    ensures count { result.1 ≡ length (unspaced (take result.0 src.now)) }
+    ensures clean { first_stray case (take result.0 src.now) ≡ None }
+{
+    let gap = space_len(src, len);
+    let mut at = 0;
+    let mut count = 0;
+    'lines: while len + gap <= src.len() - at
+        && plan.check(&src[at..at + len], case)
+        && is_space(src, at + len, gap)
+    {
+        at += len + gap;
+        count += len;
+    }
+    (at, count)
+}
+
+// Returns how many bytes of white space are at an index, but at most two. This is the end of a line.
+fn space_len(src: &[u8], at: usize) -> usize
+    requires { at ≤ length src.now }
+    ensures inside { at + result ≤ length src.now }
+    ensures most { result ≤ 2 }
+{
+    if at >= src.len() || !src[at].is_ascii_whitespace() {
+        return 0;
+    }
+    if at + 1 >= src.len() || !src[at + 1].is_ascii_whitespace() {
+        return 1;
+    }
+    2
+}
+
+// Returns whether the next bytes, of which there are at most two, are white space.
+#[inline(always)]
+fn is_space(src: &[u8], at: usize, len: usize) -> bool
+    requires inside { at + len ≤ length src.now }
+    requires most { len ≤ 2 }
+    ensures { IsTrue result → unspaced (take len (drop at src.now)) ≡ [] }
+{
+    (len < 1 || src[at].is_ascii_whitespace()) && (len < 2 || src[at + 1].is_ascii_whitespace())
+}
+
+// Does the same for a part of a source, which in most cases is a run of digits.
+#[inline(never)]
 fn survey_run(plan: Backend, src: &[u8], case: CheckCase) -> (usize, bool)
     ensures count { result.0 ≡ length (unspaced src.now) }
     ensures clean { IsTrue result.1 ↔ (first_stray case src.now ≡ None) }
@@ -140,26 +204,10 @@ fn stray_error(src: &[u8], case: CheckCase) -> Error
     }
 }
 
-// Returns how many bytes from index `at` on are worth a try as a run of digits. These are the bytes
-// before the next byte that is at most a space, as all white space is. In most texts the lines have
-// one length, so that of the last run is tried first. Then the processor need not wait for the end
-// of a run to begin with the next one.
-#[inline(always)]
-fn run_len(src: &[u8], at: usize, last: usize) -> usize
-    requires { at < length src.now }
-    ensures some { 0 < result }
-    ensures inside { at + result ≤ length src.now }
-{
-    let left = src.len() - at;
-    if 0 < last && last < left && src[at + last] <= b' ' {
-        return last;
-    }
-    found_run_len(&src[at..])
-}
-
-// Does the same for the start of a source by a search.
+// Returns the number of bytes before the first byte that is at most a space, as all white space is.
+// The first byte of the source counts in any case.
 #[inline(never)]
-fn found_run_len(src: &[u8]) -> usize
+fn run_len(src: &[u8]) -> usize
     requires { 0 < length src.now }
     ensures some { 0 < result }
     ensures inside { result ≤ length src.now }
@@ -189,27 +237,70 @@ fn decode_runs(plan: Backend, src: &[u8], dst: &mut [u8], case: CheckCase)
 {
     let mut at = 0;
     let mut done = 0;
-    let mut last = 0;
     'runs: while at < src.len() {
         if src[at].is_ascii_whitespace() {
             at += 1;
             continue;
         }
-        last = run_len(src, at, last);
-        let pairs = (last / 2).min(dst.len() - done);
-        let run = &src[at..at + 2 * pairs];
-        if decode_run(plan, run, &mut dst[done..done + pairs], case) {
-            at += 2 * pairs;
-            done += pairs;
+        let pairs = run_len(&src[at..]) / 2;
+        let (end, bytes) = decode_lines(plan, &src[at..], &mut dst[done..], pairs, case);
+        if end > 0 {
+            at += end;
+            done += bytes;
         } else {
-            // White space is between the two digits, or the last run was a wrong guess.
+            // White space is between the two digits.
             let low = at + 1 + first_solid(&src[at + 1..]).unwrap();
             dst[done] = pair_byte(src[at], src[low], case);
             at = low + 1;
             done += 1;
-            last = 0;
         }
     }
+}
+
+// Decodes lines at the start of a source into the start of `dst`, as long as each begins with so many
+// pairs of digits. Returns the number of bytes read and of those written. There are loops of their own
+// for usual lengths, as in `check_lines`.
+fn decode_lines(
+    plan: Backend,
+    src: &[u8],
+    dst: &mut [u8],
+    pairs: usize,
+    case: CheckCase,
+) -> (usize, usize)
+    requires { 2 * pairs ≤ length src.now }
+    ensures { DecodesLines case src.now dst.old dst.new result.0 result.1 }
+{
+    match pairs {
+        17..=32 => decode_lines_of(plan, src, dst, pairs, case),
+        33..=64 => decode_lines_of(plan, src, dst, pairs, case),
+        _ => decode_lines_of(plan, src, dst, pairs, case),
+    }
+}
+
+#[inline(always)]
+fn decode_lines_of(
+    plan: Backend,
+    src: &[u8],
+    dst: &mut [u8],
+    pairs: usize,
+    case: CheckCase,
+) -> (usize, usize)
+    requires { 2 * pairs ≤ length src.now }
+    ensures { DecodesLines case src.now dst.old dst.new result.0 result.1 }
+{
+    let len = 2 * pairs;
+    let gap = space_len(src, len);
+    let mut at = 0;
+    let mut done = 0;
+    'lines: while len + gap <= src.len() - at
+        && pairs <= dst.len() - done
+        && is_space(src, at + len, gap)
+        && decode_run(plan, &src[at..at + len], &mut dst[done..done + pairs], case)
+    {
+        at += len + gap;
+        done += pairs;
+    }
+    (at, done)
 }
 
 // Decodes a run over all of `dst`. Returns false and writes nothing if it has no digits or a byte that
