@@ -174,6 +174,16 @@ FASTER_HEX_MUST_USE
 struct faster_hex_answer faster_hex_decode_with_case(const void *src, size_t len,
                                                      void *dst, size_t room, uint8_t policy);
 
+/* Decodes digits under a policy, and skips ASCII white space among them, also between the two digits of a byte. White
+ * space is a space, tab, newline, form feed or carriage return. So this call decodes what `xxd -p` and `openssl` print.
+ * The number of digits is the number of bytes that are not white space, and half of it is the room required. After
+ * FASTER_HEX_INVALID_CHAR, number is the index in the source. The call is not constant time: do not use it for keys.
+ * Errors, in the order tested: FASTER_HEX_UNKNOWN_POLICY, FASTER_HEX_ODD_LENGTH, FASTER_HEX_OUTPUT_TOO_SMALL,
+ * FASTER_HEX_INVALID_CHAR. */
+FASTER_HEX_MUST_USE
+struct faster_hex_answer faster_hex_decode_spaced(const void *src, size_t len,
+                                                  void *dst, size_t room, uint8_t policy);
+
 /* Writes the digits of `every` bytes, then `sep`, then the digits of the next `every` bytes, and so on. The last group
  * may be shorter, and no separator follows it. For example, the bytes 0, 1, 0x1b and 0x21 give 00:01:1b:21 if `every`
  * is 1 and `sep` is ':'. They give 0001 1b21 if `every` is 2 and `sep` is ' '.

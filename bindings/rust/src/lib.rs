@@ -24,6 +24,7 @@
 //! |---|---|
 //! | digits in a buffer | [`hex_encode`], [`hex_encode_upper`] |
 //! | bytes in a buffer | [`hex_decode`], [`hex_decode_with_case`] |
+//! | bytes in a buffer, from digits with white space among them | [`hex_decode_spaced`], [`hex_decode_spaced_with_case`] |
 //! | bytes in an array of a known length | [`hex_decode_array`], [`hex_decode_array_with_case`] |
 //! | to print bytes as digits, with a width or `0x` | [`Hex`], by `{}`, `{:x}` or `{:X}` |
 //! | to test digits, without decoding them | [`hex_check`], [`hex_check_with_case`] |
@@ -41,7 +42,8 @@
 //! - Each byte becomes two digits, in the order of the bytes. Leading zeros stay, because the digits
 //!   are not read as a number.
 //! - Decoding takes all of its source: an even number of digits. It refuses `0x`, white space, separators and
-//!   everything else that is not a digit. You need not test the digits first.
+//!   everything else that is not a digit. Only [`hex_decode_spaced`] skips white space. You need not test the digits
+//!   first.
 //! - An empty source is valid.
 //! - A refusal is an [`Error`]. If several things are wrong, the call names the first in the order that its
 //!   page lists. [`hex_check`] tests each byte, but not how many there are. So it accepts an odd number of digits.
@@ -150,7 +152,7 @@ pub use crate::adapters::{
 };
 pub use crate::decode::{
     hex_check, hex_check_with_case, hex_decode, hex_decode_array, hex_decode_array_with_case,
-    hex_decode_with_case, CheckCase,
+    hex_decode_spaced, hex_decode_spaced_with_case, hex_decode_with_case, CheckCase,
 };
 #[cfg(feature = "alloc")]
 pub use crate::decode::{hex_decode_vec, hex_decode_vec_with_case};

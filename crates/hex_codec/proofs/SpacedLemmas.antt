@@ -24,7 +24,7 @@ pub unspaced-le : (s : List ℕ) → length (unspaced s) ≤ length s
 unspaced-le s = omega (arith, length-filter_both is_solid (λ b. not (is_solid b)) (λ _. refl) s)
 
 -- a test passes at none that a filter keeps exactly where both pass at none
-pub none-kept : (p q : ℕ → Bool) (s : List ℕ) → (position (λ b. q b && p b) s ≡ None) ↔ (position p (filter q s) ≡ None)
+none-kept : (p q : ℕ → Bool) (s : List ℕ) → (position (λ b. q b && p b) s ≡ None) ↔ (position p (filter q s) ≡ None)
 none-kept p q [] = (λ _. refl, λ _. refl)
 none-kept p q (b ∷ s) = by_first (q b) (p b) refl refl (none-kept p q s)
   where

@@ -103,6 +103,7 @@ fn survey(plan: Backend, src: &[u8], case: CheckCase) -> (usize, bool)
 // Checks lines at the start of a source, as long as each has `len` digits. Returns the number of their
 // bytes and of their digits. For lengths that are usual the compiler makes a loop of their own, which
 // does not look at the length again.
+#[inline(never)]
 fn check_lines(plan: Backend, src: &[u8], len: usize, case: CheckCase) -> (usize, usize)
     requires some { 0 < len }
     requires inside { len ≤ length src.now }
@@ -260,6 +261,7 @@ fn decode_runs(plan: Backend, src: &[u8], dst: &mut [u8], case: CheckCase)
 // Decodes lines at the start of a source into the start of `dst`, as long as each begins with so many
 // pairs of digits. Returns the number of bytes read and of those written. There are loops of their own
 // for usual lengths, as in `check_lines`.
+#[inline(never)]
 fn decode_lines(
     plan: Backend,
     src: &[u8],
