@@ -1,6 +1,6 @@
 -- A source without its white space.
 use Rattle.std.proofs.Common.{◌≡◌, ℕ, suc, ◌+◌, ◌≤◌, Bool, true, false, List, [], ◌∷◌, ◌++◌, length, take, drop, None}
-use Rattle.std.proofs.Common.{Some, get_or, refl, ◌∙◌, ap, arith, not, ◌<◌, ◌*◌, ◌≢◌, slice_index, sym, length-append, take-append-drop, append-nil, ◌-◌}
+use Rattle.std.proofs.Common.{Some, get_or, refl, ◌∙◌, ap, arith, not, ◌<◌, ◌*◌, ◌≢◌, slice_index, length-append, take-append-drop, append-nil}
 use Rattle.std.specs.Prelude.{◌↔◌, ◌&&◌, IsSome, filter, position}
 use Rattle.std.proofs.Math.Seq.{take-add}
 use Rattle.std.proofs.lemmas.Bool.Decides.{nat_tests}

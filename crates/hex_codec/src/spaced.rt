@@ -17,6 +17,9 @@ use std::simd::prelude::*;
 // The number of bytes that are searched at once for the end of a run.
 const LANES: usize = 32;
 
+// A longer run counts as several runs. So its end is not searched.
+const LONGEST_RUN: usize = 512;
+
 /// Decodes the digits of `src` into the start of `dst`, if `case` accepts them. Skips ASCII white
 /// space among them, also between the two digits of a pair. Returns the number of bytes written,
 /// which is half the number of digits.
@@ -205,14 +208,15 @@ fn stray_error(src: &[u8], case: CheckCase) -> Error
     }
 }
 
-// Returns the number of bytes before the first byte that is at most a space, as all white space is.
-// The first byte of the source counts in any case.
+// Returns the number of bytes before the first byte that is at most a space, as all white space is, but
+// at most `LONGEST_RUN`. The first byte of the source counts in any case.
 #[inline(never)]
 fn run_len(src: &[u8]) -> usize
     requires { 0 < length src.now }
     ensures some { 0 < result }
     ensures inside { result ≤ length src.now }
 {
+    let src = &src[..src.len().min(LONGEST_RUN)];
     let mut end = 1;
     'blocks: while src.len() - end >= LANES {
         let lanes = u8x32::from_slice(&src[end..]);

@@ -1,5 +1,5 @@
 -- The next line has digits too.
-use Rattle.std.proofs.Common.{◌≡◌, ◌+◌, ◌-◌, ◌∙◌, ◌≤◌, arith, ap, length, length-append, length-drop, take, drop}
+use Rattle.std.proofs.Common.{◌+◌, arith, ap, length, length-append, length-drop, take, drop}
 use Rattle.std.proofs.Math.Nat.{add-sub_cancel_left}
 use Rattle.std.proofs.lemmas.List.{length-take-le}
 use Rattle.hex_codec.specs.Spaced.{unspaced}

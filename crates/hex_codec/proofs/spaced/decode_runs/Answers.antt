@@ -1,15 +1,14 @@
 -- The next digits are decoded too.
-use Rattle.std.proofs.Common.{rules, ◌≡◌, ◌≢◌, ◌+◌, ◌-◌, ◌*◌, ◌<◌, ◌∙◌, ℕ, Option, Some, None, List, arith, ap, sym, refl, true, length, take, drop, get_or, not, length-drop, slice_set, [], ◌∷◌, ◌++◌, ◌≤◌}
+use Rattle.std.proofs.Common.{◌≡◌, ◌≢◌, ◌+◌, ◌-◌, ◌*◌, ◌∙◌, ℕ, Option, Some, None, arith, ap, sym, refl, length, take, drop, not, length-drop, slice_set, [], ◌∷◌, ◌++◌}
 use Rattle.std.specs.Prelude.{IsSome}
 use Rattle.std.proofs.Math.ListN.{length-set}
-use Rattle.std.proofs.Math.Nat.{add-sub_cancel_left}
 use Rattle.std.proofs.lemmas.List.{get_or-drop, length-take-le, take_more_set, take_rest}
 use Rattle.std.proofs.lemmas.List.Quantifiers.{position-Some}
 use Rattle.std.proofs.lemmas.Slice.{take-put_mid_below}
 use Rattle.std.proofs.Math.Seq.{take-append-add}
 use borrow.Rule.Slice.PartMut.{put_mid}
 use Rattle.hex_codec.proofs.ListLemmas.{put-behind}
-use Rattle.hex_codec.specs.Spaced.{is_solid, unspaced}
+use Rattle.hex_codec.specs.Spaced.{is_solid}
 use Rattle.hex_codec.proofs.SpacedLemmas.{decoded-more, digit-at, length-put, more-digits, pair-next, solid-there, unspaced-more}
 use Rattle.hex_codec.proofs.spaced.decode_runs.Goals as goal
 

@@ -1,5 +1,5 @@
 -- The next lines or the next run are counted and tested too.
-use Rattle.std.proofs.Common.{◌≡◌, ◌+◌, ◌-◌, ◌∙◌, arith, ap, rules, length, length-append, take, drop, length-drop, List, ℕ, ◌≤◌}
+use Rattle.std.proofs.Common.{◌+◌, ◌∙◌, arith, ap, length, length-append, take, drop, length-drop, List, ℕ, ◌≤◌}
 use Rattle.std.proofs.Math.Bool.{and-eq-true_iff}
 use Rattle.std.proofs.Math.Nat.{add-sub_cancel_left}
 use Rattle.std.proofs.lemmas.List.{length-take-le, take_rest}
