@@ -1,8 +1,8 @@
 -- Sources that come in chunks.
 use Rattle.std.proofs.Common.{◌≡◌, ℕ, ◌+◌, ◌*◌, ◌/◌, ◌^◌, ◌<◌, ◌≤◌, Bool, true, false, List, [], ◌∷◌, ◌++◌, length, length-append}
 use Rattle.std.proofs.Common.{take, drop, length-drop, ◌-◌, slice_index, Option, Some, None, Result, Ok, Err, MatchResult}
-use Rattle.std.proofs.Common.{refl, sym, ◌∙◌, ap, append_assoc, arith, not}
-use Rattle.std.specs.Prelude.{◌↔◌, ◌&&◌, filter, option_map, position, IsSome}
+use Rattle.std.proofs.Common.{refl, sym, ◌∙◌, ap, append_assoc, arith}
+use Rattle.std.specs.Prelude.{◌↔◌, option_map, IsSome}
 use Rattle.std.specs.Option.{ForSome, option_to_list}
 use Rattle.std.specs.Result.{IsOk}
 use Rattle.std.proofs.Math.Seq.{drop-append_seam, take-append_seam}
@@ -10,10 +10,8 @@ use Rattle.std.proofs.lemmas.Bool.Decides.{nat_tests}
 use Rattle.std.proofs.lemmas.Grind.{common_steps}
 use Rattle.std.proofs.lemmas.List.{drop-drop, take_rest}
 use Rattle.std.proofs.lemmas.List.Elements.{filter-append}
-use Rattle.std.proofs.lemmas.List.Filters.{length-filter_both}
 use borrow.Rule.Slice.PartMut.{put_mid}
 use Rattle.hex_core.specs.declared.digit.CheckCase.{CheckCase}
-use Rattle.hex_core.specs.declared.digit.CheckCase.TheVariants as policy
 use Rattle.hex_core.specs.declared.error.Error.{Error}
 use Rattle.hex_core.specs.declared.error.Error.TheVariants.{InvalidChar}
 use Rattle.hex_core.specs.Digit.{value}
@@ -22,12 +20,12 @@ use Rattle.hex_core.specs.Text.{Spells, with_front}
 use Rattle.hex_core.proofs.JoinLemmas.{back_at, spells-joined, valid-both, valid-parts}
 use Rattle.hex_core.proofs.LawProofs.{valid-spelled}
 use Rattle.hex_core.proofs.PositionLemmas.{none_joined, position-joined}
-use Rattle.hex_core.proofs.SearchLemmas.{has_value, lacks, none_valid}
+use Rattle.hex_core.proofs.SearchLemmas.{none_valid}
 use Rattle.hex_codec.proofs.ListLemmas.{put-behind}
 use Rattle.hex_codec.proofs.SpacedLemmas.{none-stray, unspaced-le}
 use Rattle.hex_io.specs.Decoder.{feed_refusal, pairs_more}
 use Rattle.hex_io.specs.Reading.{SpellsBut, digits_in, first_invalid_read, is_invalid_read}
-use Rattle.hex_codec.specs.Spaced.{is_solid, unspaced}
+use Rattle.hex_codec.specs.Spaced.{is_solid}
 use Rattle.hex_io.specs.Reading.{invalid_read_of}
 use Rattle.hex_io.specs.declared.stream.decoder.Reading.{Reading}
 use Rattle.hex_io.specs.inside.{invalid_read_behind}
