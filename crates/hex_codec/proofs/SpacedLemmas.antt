@@ -18,7 +18,7 @@ use Rattle.hex_core.specs.Text.{Spells}
 use Rattle.hex_core.proofs.JoinLemmas.{spells-joined, valid-both}
 use Rattle.hex_core.proofs.PositionLemmas.{before_none, none_joined, position_none}
 use Rattle.hex_core.proofs.SearchLemmas.{has_value, lacks}
-use Rattle.hex_codec.specs.Spaced.{first_stray, is_solid, is_stray, unspaced}
+use Rattle.hex_codec.specs.Spaced.{first_invalid_spaced, is_solid, is_invalid_spaced, unspaced}
 
 pub unspaced-le : (s : List ℕ) → length (unspaced s) ≤ length s
 unspaced-le s = omega (arith, length-filter_both is_solid (λ b. not (is_solid b)) (λ _. refl) s)
@@ -32,9 +32,9 @@ none-kept p q (b ∷ s) = by_first (q b) (p b) refl refl (none-kept p q s)
     by_first true u kept is rest = let both = none_joined (λ b. q b && p b) (b ∷ []) s in let behind = none_joined p (b ∷ []) (filter q s) in rw (kept, is) (grind (arith, nat_tests, rest, both, behind))
     by_first false u left is rest = let both = none_joined (λ b. q b && p b) (b ∷ []) s in rw left (grind (arith, nat_tests, rest, both))
 
--- no byte is a stray exactly where all bytes but white space are digits
-pub none-stray : (c : CheckCase) (s : List ℕ) → (first_stray c s ≡ None) ↔ (first_invalid c (unspaced s) ≡ None)
-none-stray c s = none-kept (lacks c) is_solid s
+-- no byte is invalid exactly where all bytes but white space are digits
+pub none-invalid-spaced : (c : CheckCase) (s : List ℕ) → (first_invalid_spaced c s ≡ None) ↔ (first_invalid c (unspaced s) ≡ None)
+none-invalid-spaced c s = none-kept (lacks c) is_solid s
 
 -- digits are no white space
 digit-solid : (c : CheckCase) (b : ℕ) → lacks c b ≡ false → is_solid b ≡ true
@@ -52,9 +52,9 @@ digits-solid c (b ∷ s) none =
 pub unspaced-more : (at n : ℕ) (s : List ℕ) → unspaced (take (at + n) s) ≡ unspaced (take at s) ++ unspaced (take n (drop at s))
 unspaced-more at n s = ap unspaced (take-add at n s) ∙ filter-append is_solid (take at s) (take n (drop at s))
 
-pub stray-more : (c : CheckCase) (at n : ℕ) (s : List ℕ)
-    → (first_stray c (take (at + n) s) ≡ None) ↔ ((first_stray c (take at s) ≡ None) × (first_stray c (take n (drop at s)) ≡ None))
-stray-more c at n s = rw (take-add at n s) (none_joined (is_stray c) (take at s) (take n (drop at s)))
+pub invalid-more : (c : CheckCase) (at n : ℕ) (s : List ℕ)
+    → (first_invalid_spaced c (take (at + n) s) ≡ None) ↔ ((first_invalid_spaced c (take at s) ≡ None) × (first_invalid_spaced c (take n (drop at s)) ≡ None))
+invalid-more c at n s = rw (take-add at n s) (none_joined (is_invalid_spaced c) (take at s) (take n (drop at s)))
 
 -- ---- the next byte that is no white space
 
@@ -85,16 +85,16 @@ line-more c s at len gap valid space =
     rw all at (unspaced-more (at + len) gap s)
     ∙ rw (space, append-nil (unspaced (take (at + len) s)), unspaced-more at len s, digits-solid c (take len (drop at s)) valid) refl
 
-pub line-clean : (c : CheckCase) (s : List ℕ) (at len next : ℕ) → first_stray c (take at s) ≡ None → first_invalid c (take len (drop at s)) ≡ None
-    → unspaced (take next s) ≡ unspaced (take at s) ++ take len (drop at s) → first_stray c (take next s) ≡ None
+pub line-clean : (c : CheckCase) (s : List ℕ) (at len next : ℕ) → first_invalid_spaced c (take at s) ≡ None → first_invalid c (take len (drop at s)) ≡ None
+    → unspaced (take next s) ≡ unspaced (take at s) ++ take len (drop at s) → first_invalid_spaced c (take next s) ≡ None
 line-clean c s at len next clean valid line =
-    (none-stray c (take next s)).1 (rw line (valid-both c (unspaced (take at s)) (take len (drop at s)) ((none-stray c (take at s)).0 clean) valid))
+    (none-invalid-spaced c (take next s)).1 (rw line (valid-both c (unspaced (take at s)) (take len (drop at s)) ((none-invalid-spaced c (take at s)).0 clean) valid))
 
 -- ---- decoding
 
--- a byte that is no white space is a digit, where there is no stray
-pub digit-at : (c : CheckCase) (s : List ℕ) (k : ℕ) → first_stray c s ≡ None → k < length s → is_solid (get_or s k 0) ≡ true → IsSome (value c (get_or s k 0))
-digit-at c s k none inside solid = let here = before_none (is_stray c) s none k inside in grind (arith, nat_tests, here, solid)
+-- a byte that is no white space is a digit, where no byte is invalid
+pub digit-at : (c : CheckCase) (s : List ℕ) (k : ℕ) → first_invalid_spaced c s ≡ None → k < length s → is_solid (get_or s k 0) ≡ true → IsSome (value c (get_or s k 0))
+digit-at c s k none inside solid = let here = before_none (is_invalid_spaced c) s none k inside in grind (arith, nat_tests, here, solid)
 
 module _ (s : List ℕ) (at : ℕ) (inside : at < length s) (solid : is_solid (get_or s at 0) ≡ true) where
   -- such a byte, and those behind it

@@ -18,12 +18,12 @@ abbrev pub unspaced : List ℕ → List ℕ
 unspaced s = filter is_solid s
 
 -- whether a byte is neither white space nor a digit
-abbrev pub is_stray : CheckCase → ℕ → Bool
-is_stray c b = is_solid b && is_none (value c b)
+abbrev pub is_invalid_spaced : CheckCase → ℕ → Bool
+is_invalid_spaced c b = is_solid b && is_none (value c b)
 
 -- the index of the first such byte of a source, or `None` if there is no such byte
-abbrev pub first_stray : CheckCase → List ℕ → Option ℕ
-first_stray c s = position (is_stray c) s
+abbrev pub first_invalid_spaced : CheckCase → List ℕ → Option ℕ
+first_invalid_spaced c s = position (is_invalid_spaced c) s
 
 -- the error of decoding into `room` bytes, where white space is skipped: an odd number of other bytes, else too
 -- little room for the half of this number, else the first byte that is neither white space nor a digit
@@ -31,7 +31,7 @@ abbrev pub spaced_refusal : CheckCase → List ℕ → ℕ → Option Error
 spaced_refusal c s room =
     if length (unspaced s) % 2 == 1 then Some OddLength
     else if nat_lt room (length (unspaced s) / 2) then Some (OutputTooSmall (length (unspaced s) / 2))
-    else option_map (λ i. InvalidChar i (slice_index s i)) (first_stray c s)
+    else option_map (λ i. InvalidChar i (slice_index s i)) (first_invalid_spaced c s)
 
 -- decoding to the start of a destination, where white space is skipped: the errors are those of
 -- `spaced_refusal`, and the bytes written are those that the source spells without its white space

@@ -9,7 +9,7 @@ ghost use Rattle.hex_core.specs.declared.error.Error.TheVariants.{InvalidChar};
 ghost use Rattle.hex_core.specs.Digit.{value};
 ghost use Rattle.hex_core.specs.Search.{first_invalid};
 ghost use Rattle.hex_core.specs.Text.{Spells};
-ghost use Rattle.hex_codec.specs.Spaced.{DecodesLines, DecodesSpaced, first_stray, is_solid, unspaced};
+ghost use Rattle.hex_codec.specs.Spaced.{DecodesLines, DecodesSpaced, first_invalid_spaced, is_solid, unspaced};
 
 use hex_core::{Backend, CheckCase, Error, digit_value};
 use std::simd::prelude::*;
@@ -72,7 +72,7 @@ pub fn decode_by(plan: Backend, src: &[u8], dst: &mut [u8], case: CheckCase) -> 
         return Err(Error::OutputTooSmall { required });
     }
     if !is_clean {
-        return Err(stray_error(src, case));
+        return Err(invalid_error(src, case));
     }
     decode_runs(plan, src, &mut dst[..required], case);
     Ok(required)
@@ -82,7 +82,7 @@ pub fn decode_by(plan: Backend, src: &[u8], dst: &mut [u8], case: CheckCase) -> 
 #[inline(never)]
 fn survey(plan: Backend, src: &[u8], case: CheckCase) -> (usize, bool)
     ensures count { result.0 ≡ length (unspaced src.now) }
-    ensures clean { IsTrue result.1 ↔ (first_stray case src.now ≡ None) }
+    ensures clean { IsTrue result.1 ↔ (first_invalid_spaced case src.now ≡ None) }
 {
     let mut at = 0;
     let mut count = 0;
@@ -112,7 +112,7 @@ fn check_lines(plan: Backend, src: &[u8], len: usize, case: CheckCase) -> (usize
     requires inside { len ≤ length src.now }
     ensures inside { result.0 ≤ length src.now }
     ensures count { result.1 ≡ length (unspaced (take result.0 src.now)) }
-    ensures clean { first_stray case (take result.0 src.now) ≡ None }
+    ensures clean { first_invalid_spaced case (take result.0 src.now) ≡ None }
 {
     match len {
         33..=64 => check_lines_of(plan, src, len, case),
@@ -127,7 +127,7 @@ fn check_lines_of(plan: Backend, src: &[u8], len: usize, case: CheckCase) -> (us
     requires inside { len ≤ length src.now }
     ensures inside { result.0 ≤ length src.now }
     ensures count { result.1 ≡ length (unspaced (take result.0 src.now)) }
-    ensures clean { first_stray case (take result.0 src.now) ≡ None }
+    ensures clean { first_invalid_spaced case (take result.0 src.now) ≡ None }
 {
     let gap = space_len(src, len);
     let mut at = 0;
@@ -171,12 +171,12 @@ fn is_space(src: &[u8], at: usize, len: usize) -> bool
 #[inline(never)]
 fn survey_run(plan: Backend, src: &[u8], case: CheckCase) -> (usize, bool)
     ensures count { result.0 ≡ length (unspaced src.now) }
-    ensures clean { IsTrue result.1 ↔ (first_stray case src.now ≡ None) }
+    ensures clean { IsTrue result.1 ↔ (first_invalid_spaced case src.now ≡ None) }
 {
     if plan.check(src, case) {
         return (src.len(), true);
     }
-    (solid_count(src), first_stray(src, case).is_none())
+    (solid_count(src), first_invalid_spaced(src, case).is_none())
 }
 
 // Returns the number of bytes that are not white space.
@@ -189,19 +189,19 @@ fn solid_count(src: &[u8]) -> usize
 }
 
 // Returns the index of the first byte that is neither white space nor a digit.
-fn first_stray(src: &[u8], case: CheckCase) -> Option<usize>
-    ensures { result ≡ first_stray case src.now }
+fn first_invalid_spaced(src: &[u8], case: CheckCase) -> Option<usize>
+    ensures { result ≡ first_invalid_spaced case src.now }
 {
     src.iter().position(|byte| !byte.is_ascii_whitespace() && digit_value(*byte, case).is_none())
 }
 
 // Returns the error for that byte.
 #[cold]
-fn stray_error(src: &[u8], case: CheckCase) -> Error
-    requires { first_stray case src.now ≢ None }
-    ensures { option_map (λ i. InvalidChar i (slice_index src.now i)) (first_stray case src.now) ≡ Some result }
+fn invalid_error(src: &[u8], case: CheckCase) -> Error
+    requires { first_invalid_spaced case src.now ≢ None }
+    ensures { option_map (λ i. InvalidChar i (slice_index src.now i)) (first_invalid_spaced case src.now) ≡ Some result }
 {
-    let index = first_stray(src, case).unwrap();
+    let index = first_invalid_spaced(src, case).unwrap();
     Error::InvalidChar {
         index,
         byte: src[index],
@@ -236,7 +236,7 @@ fn run_len(src: &[u8]) -> usize
 // Decodes all digits of a source, which are valid, over all of `dst`.
 #[inline(never)]
 fn decode_runs(plan: Backend, src: &[u8], dst: &mut [u8], case: CheckCase)
-    requires clean { first_stray case src.now ≡ None }
+    requires clean { first_invalid_spaced case src.now ≡ None }
     requires twice { length (unspaced src.now) ≡ 2 * length dst.old }
     ensures { Spells case (unspaced src.now) dst.new }
 {

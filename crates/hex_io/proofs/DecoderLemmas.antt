@@ -22,7 +22,7 @@ use Rattle.hex_core.proofs.LawProofs.{valid-spelled}
 use Rattle.hex_core.proofs.PositionLemmas.{none_joined, position-joined}
 use Rattle.hex_core.proofs.SearchLemmas.{none_valid}
 use Rattle.hex_codec.proofs.ListLemmas.{put-behind}
-use Rattle.hex_codec.proofs.SpacedLemmas.{none-stray, unspaced-le}
+use Rattle.hex_codec.proofs.SpacedLemmas.{none-invalid-spaced, unspaced-le}
 use Rattle.hex_io.specs.Decoder.{feed_refusal, pairs_more}
 use Rattle.hex_io.specs.Reading.{SpellsBut, digits_in, first_invalid_read, is_invalid_read}
 use Rattle.hex_codec.specs.Spaced.{is_solid}
@@ -45,7 +45,7 @@ digits-le c false s = omega arith
 -- no byte is invalid exactly where all digits are valid
 pub digits-valid : (c : CheckCase) (skips : Bool) (s : List ℕ) → let r : Reading = record { case = c; skips = skips } in
     (first_invalid_read r s ≡ None) ↔ (first_invalid c (digits_in r s) ≡ None)
-digits-valid c true s = none-stray c s
+digits-valid c true s = none-invalid-spaced c s
 digits-valid c false s = (λ none. none, λ none. none)
 
 pub none-invalid : (c : CheckCase) (skips : Bool) (s : List ℕ) → let r : Reading = record { case = c; skips = skips } in

@@ -4,7 +4,7 @@ use Rattle.std.proofs.Math.Bool.{and-eq-true_iff}
 use Rattle.std.proofs.Math.Nat.{add-sub_cancel_left}
 use Rattle.std.proofs.lemmas.List.{length-take-le, take_rest}
 use Rattle.hex_codec.specs.Spaced.{unspaced}
-use Rattle.hex_codec.proofs.SpacedLemmas.{stray-more, unspaced-le, unspaced-more}
+use Rattle.hex_codec.proofs.SpacedLemmas.{invalid-more, unspaced-le, unspaced-more}
 use Rattle.hex_codec.proofs.spaced.survey.Goals as goal
 
 lines-inside : (s : List ℕ) (at n : ℕ) → at ≤ length s → n ≤ length (drop at s) → at + n ≤ length s
@@ -23,7 +23,7 @@ runs-preserved-then-end-gt0 c =
     let count = rw (take_rest s at) at c.check_lines-end.ensures.count in
     let clean = rw (take_rest s at) at c.check_lines-end.ensures.clean in
     let all = ap length (unspaced-more at end s) ∙ length-append (unspaced (take at s)) (unspaced (take end (drop at s))) in
-    let joined = stray-more c.args.case at end s in (
+    let joined = invalid-more c.args.case at end s in (
       lines-inside s at end c.runs.invariant.0 (rw (take_rest s at) at c.check_lines-end.ensures.inside),
       omega (arith, c.runs.invariant.1, count, all),
       (λ yes. joined.1 (c.runs.invariant.2.0 yes, clean), λ none. c.runs.invariant.2.1 (joined.0 none).0),
@@ -45,7 +45,7 @@ runs-preserved c =
     let clean = rw (add-sub_cancel_left at run) at c.survey_run-more.ensures.clean in
     let all = ap length (unspaced-more at run s) ∙ length-append (unspaced (take at s)) (unspaced (take run (drop at s))) in
     let both = and-eq-true_iff c.runs.is_clean c.survey_run-more.result.1 in
-    let joined = stray-more c.args.case at run s in (
+    let joined = invalid-more c.args.case at run s in (
       inside,
       omega (arith, c.runs.invariant.1, count, all),
       (
