@@ -8,3 +8,4 @@ pub mod GroupedWriting
 pub mod GroupedReading
 pub mod GroupRule
 pub mod Spaced
+pub mod inside

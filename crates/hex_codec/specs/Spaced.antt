@@ -1,6 +1,6 @@
 -- Digits with white space among them.
 use Rattle.std.specs.Prelude.{ℕ, ◌/◌, ◌%◌, ◌==◌, nat_lt, Bool, not, ◌&&◌, if◌then◌else◌, List, length, filter, position}
-use Rattle.std.specs.Prelude.{slice_index, take, is_none, Option, Some, option_map, Result, ◌≡◌, ◌≤◌}
+use Rattle.std.specs.Prelude.{slice_index, is_none, Option, Some, option_map, Result}
 use Rattle.std.specs.Char.{is_ascii_whitespace}
 use Rattle.hex_core.specs.declared.digit.CheckCase.{CheckCase}
 use Rattle.hex_core.specs.declared.error.Error.{Error}
@@ -37,11 +37,3 @@ spaced_refusal c s room =
 -- `spaced_refusal`, and the bytes written are those that the source spells without its white space
 abbrev pub DecodesSpaced : CheckCase → List ℕ → List ℕ → List ℕ → Result ℕ Error → Type 0
 DecodesSpaced c s old new result = Fills (spaced_refusal c s (length old)) (Spells c (unspaced s)) old new result
-
--- the digits among the first `end` bytes of a source were decoded to the start of a destination, where they are
--- `count` bytes
-pub record DecodesLines (c : CheckCase) (s old new : List ℕ) (end count : ℕ) : Type 0 where
-  pub inside : end ≤ length s
-  pub same : length new ≡ length old
-  pub room : count ≤ length new
-  pub spelled : Spells c (unspaced (take end s)) (take count new)

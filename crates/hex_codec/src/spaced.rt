@@ -9,7 +9,8 @@ ghost use Rattle.hex_core.specs.declared.error.Error.TheVariants.{InvalidChar};
 ghost use Rattle.hex_core.specs.Digit.{value};
 ghost use Rattle.hex_core.specs.Search.{first_invalid};
 ghost use Rattle.hex_core.specs.Text.{Spells};
-ghost use Rattle.hex_codec.specs.Spaced.{DecodesLines, DecodesSpaced, first_invalid_spaced, is_solid, unspaced};
+ghost use Rattle.hex_codec.specs.inside.{DecodesLines};
+ghost use Rattle.hex_codec.specs.Spaced.{DecodesSpaced, first_invalid_spaced, is_solid, unspaced};
 
 use hex_core::{Backend, CheckCase, Error, digit_value};
 use std::simd::prelude::*;
@@ -95,7 +96,7 @@ fn survey(plan: Backend, src: &[u8], case: CheckCase) -> (usize, bool)
             count += digits;
             continue;
         }
-        let (more, are_digits) = survey_run(plan, &src[at..at + run], case);
+        let (more, are_digits) = survey_bytes(&src[at..at + run], case);
         count += more;
         is_clean &= are_digits;
         at += run;
@@ -167,15 +168,12 @@ fn is_space(src: &[u8], at: usize, len: usize) -> bool
     (len < 1 || src[at].is_ascii_whitespace()) && (len < 2 || src[at + 1].is_ascii_whitespace())
 }
 
-// Does the same for a part of a source, which in most cases is a run of digits.
+// Does the same as `survey`, byte by byte.
 #[inline(never)]
-fn survey_run(plan: Backend, src: &[u8], case: CheckCase) -> (usize, bool)
+fn survey_bytes(src: &[u8], case: CheckCase) -> (usize, bool)
     ensures count { result.0 ≡ length (unspaced src.now) }
     ensures clean { IsTrue result.1 ↔ (first_invalid_spaced case src.now ≡ None) }
 {
-    if plan.check(src, case) {
-        return (src.len(), true);
-    }
     (solid_count(src), first_invalid_spaced(src, case).is_none())
 }
 

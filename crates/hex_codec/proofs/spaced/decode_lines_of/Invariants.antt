@@ -1,6 +1,6 @@
 -- The lines before this place are decoded.
 use Rattle.std.proofs.Common.{◌-◌, length}
-use Rattle.hex_codec.specs.Spaced.{DecodesLines}
+use Rattle.hex_codec.specs.inside.{DecodesLines}
 use Rattle.hex_codec.proofs.spaced.decode_lines_of.Given as goal
 
 abbrev pub invariant-lines : goal.invariant-lines

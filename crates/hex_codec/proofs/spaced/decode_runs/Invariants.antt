@@ -1,6 +1,6 @@
 -- The digits before this place are decoded.
 use Rattle.std.proofs.Common.{◌-◌, length}
-use Rattle.hex_codec.specs.Spaced.{DecodesLines}
+use Rattle.hex_codec.specs.inside.{DecodesLines}
 use Rattle.hex_codec.proofs.spaced.decode_runs.Given as goal
 
 abbrev pub invariant-runs : goal.invariant-runs

@@ -33,7 +33,7 @@ pub overflow_add-count-in-runs : goal.overflow_add-count-in-runs
 overflow_add-count-in-runs c =
     let s = c.args.src.now in let at = c.runs.at in let run = c.run_len-run.result in
     let inside = lines-inside s at run c.runs.invariant.0 (rw (take_rest s at) at c.run_len-run.ensures.inside) in
-    let count = rw (add-sub_cancel_left at run) at c.survey_run-more.ensures.count in
+    let count = rw (add-sub_cancel_left at run) at c.survey_bytes-more.ensures.count in
     let all = ap length (unspaced-more at run s) ∙ length-append (unspaced (take at s)) (unspaced (take run (drop at s))) in
     omega (arith, c.runs.invariant.1, count, all, unspaced-le (take (at + run) s), length-take-le (at + run) s inside)
 
@@ -41,10 +41,10 @@ pub runs-preserved : goal.runs-preserved
 runs-preserved c =
     let s = c.args.src.now in let at = c.runs.at in let run = c.run_len-run.result in
     let inside = lines-inside s at run c.runs.invariant.0 (rw (take_rest s at) at c.run_len-run.ensures.inside) in
-    let count = rw (add-sub_cancel_left at run) at c.survey_run-more.ensures.count in
-    let clean = rw (add-sub_cancel_left at run) at c.survey_run-more.ensures.clean in
+    let count = rw (add-sub_cancel_left at run) at c.survey_bytes-more.ensures.count in
+    let clean = rw (add-sub_cancel_left at run) at c.survey_bytes-more.ensures.clean in
     let all = ap length (unspaced-more at run s) ∙ length-append (unspaced (take at s)) (unspaced (take run (drop at s))) in
-    let both = and-eq-true_iff c.runs.is_clean c.survey_run-more.result.1 in
+    let both = and-eq-true_iff c.runs.is_clean c.survey_bytes-more.result.1 in
     let joined = invalid-more c.args.case at run s in (
       inside,
       omega (arith, c.runs.invariant.1, count, all),
