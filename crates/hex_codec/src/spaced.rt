@@ -18,8 +18,9 @@ use std::simd::prelude::*;
 // The number of bytes that are searched at once for the end of a run.
 const LANES: usize = 32;
 
-// A longer run counts as several runs. So its end is not searched.
-const LONGEST_RUN: usize = 512;
+// A longer run counts as several runs, so its end is not searched. So many digits are decoded without the
+// call of another function.
+const LONGEST_RUN: usize = 192;
 
 /// Decodes the digits of `src` into the start of `dst`, if `case` accepts them. Skips ASCII white
 /// space among them, also between the two digits of a pair. Returns the number of bytes written,
@@ -275,9 +276,12 @@ fn decode_lines(
     ensures { DecodesLines case src.now dst.old dst.new result.0 result.1 }
 {
     match pairs {
+        0..=16 => decode_lines_of(plan, src, dst, pairs, case),
         17..=32 => decode_lines_of(plan, src, dst, pairs, case),
         33..=64 => decode_lines_of(plan, src, dst, pairs, case),
-        _ => decode_lines_of(plan, src, dst, pairs, case),
+        65..=96 => decode_lines_of(plan, src, dst, pairs, case),
+        // No run has more.
+        _ => (0, 0),
     }
 }
 
