@@ -198,7 +198,8 @@ fn first_invalid_spaced(src: &[u8], case: CheckCase) -> Option<usize>
 #[cold]
 fn invalid_error(src: &[u8], case: CheckCase) -> Error
     requires { first_invalid_spaced case src.now ≢ None }
-    ensures { option_map (λ i. InvalidChar i (slice_index src.now i)) (first_invalid_spaced case src.now) ≡ Some result }
+    ensures { option_map (λ i. InvalidChar i (slice_index src.now i))
+        (first_invalid_spaced case src.now) ≡ Some result }
 {
     let index = first_invalid_spaced(src, case).unwrap();
     Error::InvalidChar {
