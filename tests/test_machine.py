@@ -141,7 +141,8 @@ def test_record():
     found = [re.fullmatch(r"(\S+): (\d+) of (\d+) instructions executed", it) for it in lines]
     left = {it[1]: int(it[3]) - int(it[2]) for it in found if it}
     assert {*left} == names_of_functions()
-    assert {it: count for it, count in left.items() if count and not re.search("grouped|codec_pieces|spaced", it)} == LEFT
+    partly = "grouped|codec_pieces|spaced"
+    assert {it: count for it, count in left.items() if count and not re.search(partly, it)} == LEFT
 
 
 def names_of_functions():

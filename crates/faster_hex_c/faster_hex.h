@@ -49,25 +49,25 @@
  *   code.
  * - Checked for all bytes and every length: a tool of the repository executes the machine code symbolically, that is,
  *   with a source whose length and bytes are unknown. It was run on one archive, which gcc built on Linux. FreeBSD and
- *   NetBSD use the same assembly. The check covers the builds whose names begin with x86-64-v, and the calls
- *   without groups and without white space. For these, the results are right, and a call that reports an error has written nothing, not even
- *   for a while. The code reads only the source, its stack, its constants and its byte of state. It writes only the
- *   destination and its stack. This also holds if an empty source or destination is NULL. For the calls with groups in
- *   the builds for x86-64-v2 and x86-64-v3, the same is checked for sources of up to 32 bytes.
- * - Keys: the same tool checks which addresses and branches depend on the bytes of the source. In a call that encodes
- *   without groups, no address and no branch depends on them. When any other such call checks, decodes or searches
- *   valid digits, the only such branches ask whether all digits of one part of the source are valid. They go the same
- *   way for all valid digits. So use these calls for keys, if faster_hex_build names one of these three builds.
+ *   NetBSD use the same assembly. The check covers the builds whose names begin with x86-64-v, and all calls except the
+ *   grouped ones and faster_hex_decode_spaced. For these, the results are right, and a call that reports an error has
+ *   written nothing, not even for a while. The code reads only the source, its stack, its constants and its byte of
+ *   state. It writes only the destination and its stack. This also holds if an empty source or destination is NULL. For
+ *   the calls with groups in the builds for x86-64-v2 and x86-64-v3, the same is checked for sources of up to 32 bytes.
+ * - Keys: the same tool checks which addresses and branches depend on the bytes of the source, in all calls except the
+ *   grouped ones and faster_hex_decode_spaced. In a call that encodes, no address and no branch depends on them. When a
+ *   call checks, decodes or searches valid digits, the only such branches ask whether all digits of one part of the
+ *   source are valid. They go the same way for all valid digits. So use these calls for keys, if faster_hex_build names
+ *   one of these builds.
  * - Not constant time: the baseline build, which is the one for x86-64 without a level. It looks bytes up in tables.
  *   It runs on processors without x86-64-v2, and for calls that are made before the library's constructor has run. The
  *   constructor is a function that runs when the library is loaded. In every build a call that must find the index of
- *   an invalid byte uses a table too. The time of faster_hex_decode_spaced depends on where the white space is. The
- *   grouped calls, the machine code for Windows and macOS, and processors other
- *   than x86-64 were not examined for this.
+ *   an invalid byte uses a table too. The time of faster_hex_decode_spaced depends on where the white space is, and it
+ *   may use a table. The grouped calls, the machine code for Windows and macOS, and processors other than x86-64 were not
+ *   examined for this.
  * - Only tested, on Linux: the machine code of the other builds, of faster_hex_decode_spaced, and of the calls with
- *   groups for longer sources. The
- *   machine code for Windows is tested under wine. On FreeBSD, NetBSD and macOS the library was only assembled, and
- *   never run. Only tests show that calls allocate nothing and may run in threads.
+ *   groups for longer sources. The machine code for Windows is tested under wine. On FreeBSD, NetBSD and macOS the
+ *   library was only assembled, and never run. Only tests show that calls allocate nothing and may run in threads.
  */
 #ifndef FASTER_HEX_H
 #define FASTER_HEX_H

@@ -214,8 +214,8 @@ static bool spaces(size_t at, size_t every) {
     return in_line == line - 1 || (in_line % (every + 1) == every);
 }
 
-/* Writes a text for a call to read: bytes, digits, or digits in groups or lines. In one of four texts, one byte is no digit
- * or a letter of the wrong case. `turn` makes different texts of the same length. */
+/* Writes a text for a call to read: bytes, digits, or digits in groups or lines. In one of four texts, one byte is no
+ * digit or a letter of the wrong case. `turn` makes different texts of the same length. */
 static void fill(const struct job *it, uint8_t *text, unsigned turn) {
     static const char *const letters[] = { "0123456789aBcDeF", "0123456789abcdef", "0123456789ABCDEF" };
     for (size_t i = 0; i < it->len; i++) {

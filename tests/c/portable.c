@@ -45,7 +45,8 @@ static answer run(const struct job *it, bool by_library, uint8_t *dst) {
     }
 }
 
-/* Writes digits for the call to read, with white space for call 6, and in groups for call 7. In half of the texts a random byte is put somewhere. */
+/* Writes digits for the call to read, with white space for call 6, and in groups for call 7. In half of the texts a
+ * random byte is put somewhere. */
 static void fill(struct job *it) {
     static const char *const letters[] = { "0123456789aBcDeF", "0123456789abcdef", "0123456789ABCDEF" };
     size_t span = it->call >= 6 && it->every > 0 ? span_of(it->every) : WHOLE;

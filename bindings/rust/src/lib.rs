@@ -24,7 +24,7 @@
 //! |---|---|
 //! | digits in a buffer | [`hex_encode`], [`hex_encode_upper`] |
 //! | bytes in a buffer | [`hex_decode`], [`hex_decode_with_case`] |
-//! | bytes in a buffer, from digits with white space among them | [`hex_decode_spaced`], [`hex_decode_spaced_with_case`] |
+//! | the same from digits with white space | [`hex_decode_spaced`], [`hex_decode_spaced_with_case`] |
 //! | bytes in an array of a known length | [`hex_decode_array`], [`hex_decode_array_with_case`] |
 //! | to print bytes as digits, with a width or `0x` | [`Hex`], by `{}`, `{:x}` or `{:X}` |
 //! | to test digits, without decoding them | [`hex_check`], [`hex_check_with_case`] |
