@@ -63,8 +63,8 @@
  *   It runs on processors without x86-64-v2, and for calls that are made before the library's constructor has run. The
  *   constructor is a function that runs when the library is loaded. In every build a call that must find the index of
  *   an invalid byte uses a table too. The time of faster_hex_decode_spaced depends on where the white space is, and it
- *   may use a table. The grouped calls, the machine code for Windows and macOS, and processors other than x86-64 were not
- *   examined for this.
+ *   may use a table. The grouped calls, the machine code for Windows and macOS, and processors other than x86-64 were
+ *   not examined for this.
  * - Only tested, on Linux: the machine code of the other builds, of faster_hex_decode_spaced, and of the calls with
  *   groups for longer sources. The machine code for Windows is tested under wine. On FreeBSD, NetBSD and macOS the
  *   library was only assembled, and never run. Only tests show that calls allocate nothing and may run in threads.
