@@ -11,8 +11,10 @@ BUILDS = [*TOP.glob("generated/x86-64*.s")]
 # The calls of the header, each with the arguments after a source and its length.
 WORDS = {"check": "", "check_with_case": "0", "first_invalid": "0", "encode": "dst, 8, 0", "decode": "dst, 2"}
 WORDS |= {"decode_with_case": "dst, 2, 0", "encode_grouped": "dst, 11, 0, 1, 58", "decode_grouped": "dst, 2, 0, 1, 58"}
+WORDS |= {"decode_spaced": "dst, 2, 0"}
 # Calls of faster_hex.hpp whose result must be used.
-OF_CPP = ["encode(text)", "encode(text.data(), 1)", "decode(text)", "decode(text.data(), 2)", "build()"]
+OF_CPP = ["encode(text)", "encode(text.data(), 1)", "decode(text)", "decode(text.data(), 2)", "decode_spaced(text)",
+          "build()"]
 # Calls that faster_hex.hpp does not let compile, each with a part of the only error, by gcc and by clang.
 LITERAL, BYTES, DELETED, NONE = "string literal", "must be bytes", "deleted", "no matching function"
 REFUSED = {

@@ -13,7 +13,8 @@ SPEAKS |= {"x86-64-v3": ("\tvpshufb\t.*%ymm", "%zmm"), "x86-64-v4": ("\tvptestm.
 SPEAKS |= {"x86-64-vbmi": ("\tvpermb\t", "_encode|_grouped")}
 # The builds for AVX-512, and the calls that they have.
 OF_AVX512 = "x86-64-v4", "x86-64-vbmi"
-CALLS = ["check", "check_lower", "check_upper", "check_with_case", "decode", "decode_with_case"]
+CALLS = ["check", "check_lower", "check_upper", "check_with_case", "decode", "decode_spaced",
+         "decode_with_case"]
 SPEAKS |= {"aarch64": (r"\ttbl\t", "%")}
 # Instructions that are one step for a processor together with the conditional jump after them.
 TESTS = re.compile("(cmp|test|add|sub|inc|dec|and)[bwlq]?$")

@@ -202,6 +202,8 @@ CALL(answer, encode, (const void *src, size_t len, void *dst, size_t room, bool 
 CALL(answer, decode, (const void *src, size_t len, void *dst, size_t room), (src, len, dst, room), dst, 5)
 CALL(answer, decode_with_case, (const void *src, size_t len, void *dst, size_t room, uint8_t policy),
      (src, len, dst, room, policy), dst, 5)
+CALL(answer, decode_spaced, (const void *src, size_t len, void *dst, size_t room, uint8_t policy),
+     (src, len, dst, room, policy), dst, 5)
 CALL(answer, encode_grouped,
      (const void *src, size_t len, void *dst, size_t room, bool upper, size_t every, uint8_t sep),
      (src, len, dst, room, upper, every, sep), dst, 3)

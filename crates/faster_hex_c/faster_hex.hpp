@@ -121,6 +121,16 @@ template <class Digits> [[nodiscard]] std::vector<unsigned char> decode(const Di
     return decode(text.data(), text.size(), by);
 }
 
+/* Does the same, but skips ASCII white space among the digits. */
+template <class Digits> [[nodiscard]] std::vector<unsigned char> decode_spaced(const Digits &digits,
+                                                                               policy by = policy::either_case) {
+    const std::string_view text = digits_of(digits);
+    std::vector<unsigned char> bytes(FASTER_HEX_DECODED_LEN(text.size()));
+    bytes.resize(written(faster_hex_decode_spaced(text.data(), text.size(), bytes.data(), bytes.size(),
+                                                  static_cast<uint8_t>(by))));
+    return bytes;
+}
+
 /* Names the build that the next call uses, as faster_hex_build does. */
 [[nodiscard]] inline std::string_view build() noexcept {
     return faster_hex_build();

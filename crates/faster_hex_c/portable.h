@@ -99,6 +99,32 @@ static answer portable_decode(const void *src, size_t len, void *dst, size_t roo
     return portable_decode_with_case(src, len, dst, room, FASTER_HEX_EITHER_CASE);
 }
 
+static bool is_space(uint8_t byte) {
+    return byte == ' ' || byte == '\t' || byte == '\n' || byte == '\f' || byte == '\r';
+}
+
+static answer portable_decode_spaced(const void *from, size_t len, void *to, size_t room, uint8_t policy) {
+    const uint8_t *src = from;
+    uint8_t *dst = to;
+    size_t digits = 0, first = len;
+    if (policy > FASTER_HEX_UPPERCASE) return answer_of(FASTER_HEX_UNKNOWN_POLICY, 0);
+    for (size_t at = 0; at < len; at++) {
+        if (is_space(src[at])) continue;
+        digits++;
+        if (first == len && value_of(src[at], policy) == 16) first = at;
+    }
+    if (digits % 2 == 1) return answer_of(FASTER_HEX_ODD_LENGTH, 0);
+    if (room < digits / 2) return answer_of(FASTER_HEX_OUTPUT_TOO_SMALL, digits / 2);
+    if (first < len) return (answer){ first, FASTER_HEX_INVALID_CHAR, src[first] };
+    for (size_t at = 0, done = 0, high = 0; at < len; at++) {
+        if (is_space(src[at])) continue;
+        if (done % 2 == 1) dst[done / 2] = (uint8_t)(16 * high + value_of(src[at], policy));
+        high = value_of(src[at], policy);
+        done++;
+    }
+    return answer_of(FASTER_HEX_DONE, digits / 2);
+}
+
 static answer portable_encode_grouped(const void *src, size_t len, void *dst, size_t room, bool upper,
                                     size_t every, uint8_t sep) {
     if (!is_group(every, sep)) return answer_of(FASTER_HEX_NOT_A_GROUP, 0);

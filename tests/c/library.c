@@ -28,10 +28,11 @@ IS(FASTER_HEX_GROUPED_LEN(4, 1 + 1) == 9 && FASTER_HEX_GROUPED_LEN(5, 2) == 12);
 
 static const char *const NAMES[] = {
     "check", "check_with_case", "first_invalid", "encode", "decode", "decode_with_case", "encode_grouped",
-    "decode_grouped",
+    "decode_grouped", "decode_spaced",
 };
 enum call {
-    CHECK, CHECK_WITH_CASE, FIRST_INVALID, ENCODE, DECODE, DECODE_WITH_CASE, ENCODE_GROUPED, DECODE_GROUPED, CALLS
+    CHECK, CHECK_WITH_CASE, FIRST_INVALID, ENCODE, DECODE, DECODE_WITH_CASE, ENCODE_GROUPED, DECODE_GROUPED,
+    DECODE_SPACED, CALLS
 };
 
 struct job {
@@ -63,6 +64,8 @@ static struct faster_hex_answer run(const struct job *it) {
         return faster_hex_decode_with_case(it->src, it->len, it->dst, it->room, it->policy);
     case ENCODE_GROUPED:
         return faster_hex_encode_grouped(it->src, it->len, it->dst, it->room, it->upper, it->every, it->sep);
+    case DECODE_SPACED:
+        return faster_hex_decode_spaced(it->src, it->len, it->dst, it->room, it->policy);
     default:
         return faster_hex_decode_grouped(it->src, it->len, it->dst, it->room, it->policy, it->every, it->sep);
     }
@@ -123,6 +126,30 @@ static struct faster_hex_answer model_decode(const struct job *it, uint8_t polic
     return told(digits / 2, FASTER_HEX_DONE, 0);
 }
 
+static const char SPACE[5] = { ' ', '\t', '\n', '\f', '\r' };
+
+static bool is_space(uint8_t byte) {
+    return memchr(SPACE, byte, sizeof SPACE) != NULL;
+}
+
+static struct faster_hex_answer model_spaced(const struct job *it) {
+    size_t digits = 0, at = 0;
+    for (size_t i = 0; i < it->len; i++) digits += !is_space(it->src[i]);
+    if (digits % 2 == 1) return told(0, FASTER_HEX_ODD_LENGTH, 0);
+    if (it->room < digits / 2) return told(digits / 2, FASTER_HEX_OUTPUT_TOO_SMALL, 0);
+    for (size_t i = 0; i < it->len; i++) {
+        bool wrong = !is_space(it->src[i]) && value(it->policy, it->src[i]) < 0;
+        if (wrong) return told(i, FASTER_HEX_INVALID_CHAR, it->src[i]);
+    }
+    for (size_t i = 0; i < it->len; i++) {
+        int digit = value(it->policy, it->src[i]);
+        if (is_space(it->src[i])) continue;
+        it->dst[at / 2] = (uint8_t)(at % 2 ? it->dst[at / 2] * 16 + digit : digit);
+        at++;
+    }
+    return told(digits / 2, FASTER_HEX_DONE, 0);
+}
+
 static struct faster_hex_answer model(const struct job *it) {
     const size_t whole = 1 << 20; /* longer than any text here, so there is no separator */
     switch (it->call) {
@@ -139,6 +166,7 @@ static struct faster_hex_answer model(const struct job *it) {
     }
     if (it->policy > FASTER_HEX_UPPERCASE) return told(0, FASTER_HEX_UNKNOWN_POLICY, 0);
     if (it->call == FIRST_INVALID) return model_search(it, it->policy, whole);
+    if (it->call == DECODE_SPACED) return model_spaced(it);
     if (it->call == DECODE_WITH_CASE) return model_decode(it, it->policy, whole, FASTER_HEX_ODD_LENGTH);
     if (!is_group(it->every, it->sep)) return told(0, FASTER_HEX_NOT_A_GROUP, 0);
     return model_decode(it, it->policy, it->every, FASTER_HEX_BAD_LENGTH);
@@ -179,13 +207,21 @@ static void count(bool holds) {
     else failed++;
 }
 
-/* Writes a text for a call to read: bytes, digits, or digits in groups. In one of four texts, one byte is no digit
- * or a letter of the wrong case. `turn` makes different texts of the same length. */
+/* Whether white space is at this index of a text in lines of `every` digits. Each third line ends with two bytes of
+ * it. */
+static bool spaces(size_t at, size_t every) {
+    size_t line = 3 * every + 4, in_line = at % line;
+    return in_line == line - 1 || (in_line % (every + 1) == every);
+}
+
+/* Writes a text for a call to read: bytes, digits, or digits in groups or lines. In one of four texts, one byte is no
+ * digit or a letter of the wrong case. `turn` makes different texts of the same length. */
 static void fill(const struct job *it, uint8_t *text, unsigned turn) {
     static const char *const letters[] = { "0123456789aBcDeF", "0123456789abcdef", "0123456789ABCDEF" };
     for (size_t i = 0; i < it->len; i++) {
         unsigned mixed = (unsigned)(i * 73 + i / 7 + turn * 31);
         if (it->call == ENCODE || it->call == ENCODE_GROUPED) text[i] = (uint8_t)mixed;
+        else if (it->call == DECODE_SPACED && spaces(i, it->every)) text[i] = (uint8_t)SPACE[mixed % 5];
         else if (it->call == DECODE_GROUPED && it->every != 0 && separates(i, it->every)) text[i] = it->sep;
         else text[i] = (uint8_t)letters[turn % 3][mixed % 16];
     }
@@ -195,6 +231,11 @@ static void fill(const struct job *it, uint8_t *text, unsigned turn) {
 
 /* The length of the destination that a call needs. */
 static size_t takes(const struct job *it) {
+    if (it->call == DECODE_SPACED) {
+        size_t digits = 0;
+        for (size_t i = 0; i < it->len; i++) digits += !spaces(i, it->every);
+        return digits / 2;
+    }
     if (it->call == ENCODE) return FASTER_HEX_ENCODED_LEN(it->len);
     if (it->call == ENCODE_GROUPED && it->every != 0) return FASTER_HEX_GROUPED_LEN(it->len, it->every);
     return FASTER_HEX_DECODED_LEN(it->len);
@@ -304,6 +345,26 @@ static void at_long_lengths(void) {
     free(to.kept);
 }
 
+/* Each kind of white space at each place of a text of each length. */
+static void with_space(struct memory to) {
+    for (size_t len = 0; len <= LONGEST; len++) {
+        bool holds = true;
+        uint8_t text[LONGEST + 1];
+        struct job it = { DECODE_SPACED, text, len, to.start, len / 2, false, 0, LONGEST + 1, 0 };
+        for (size_t at = 0; at <= len; at++) {
+            fill(&it, text + 1, 0);
+            memmove(text, text + 1, at);
+            it.len = len + 1;
+            for (size_t i = 0; i < sizeof SPACE; i++) {
+                text[at] = (uint8_t)SPACE[i];
+                holds = agrees(&it, to) && holds;
+            }
+            it.len = len;
+        }
+        count(holds);
+    }
+}
+
 /* NULL with the length 0, as the source, as the destination, and as both. */
 static void with_null(struct memory to) {
     for (unsigned call = 0; call < CALLS; call++) {
@@ -360,6 +421,7 @@ static void wide_rooms(size_t wide, uint8_t *dst) {
     const char *src = "00ff0A1b";
     count(has_room(faster_hex_decode(src, 8, dst, wide), 4));
     count(has_room(faster_hex_decode_with_case(src, 8, dst, wide, 0), 4));
+    count(has_room(faster_hex_decode_spaced("00 ff0A 1b", 10, dst, wide, 0), 4));
     count(has_room(faster_hex_encode(src, 8, dst, wide, false), 16));
     count(has_room(faster_hex_encode_grouped(src, 8, dst, wide, false, 1, ':'), 23));
     count(has_room(faster_hex_encode_grouped(src, 8, dst, 16, false, wide, ':'), 16));
@@ -401,6 +463,7 @@ static void other_policies(void) {
         count(!faster_hex_check_with_case("00", 2, number));
         count(is_told(faster_hex_first_invalid("00", 2, number), 0, FASTER_HEX_UNKNOWN_POLICY) &&
               is_told(faster_hex_decode_with_case("00", 2, &byte, 1, number), 0, FASTER_HEX_UNKNOWN_POLICY) &&
+              is_told(faster_hex_decode_spaced("00", 2, &byte, 1, number), 0, FASTER_HEX_UNKNOWN_POLICY) &&
               is_told(faster_hex_decode_grouped("00", 2, &byte, 1, number, 1, ':'), 0,
                       FASTER_HEX_UNKNOWN_POLICY) && byte == 0xa5);
     }
@@ -503,6 +566,7 @@ int main(int words, char **word) {
         at_drawn_lengths();
         for (size_t len = 0; len <= LONGEST; len++) at_length(len, 60, from, to);
         at_long_lengths();
+        with_space((struct memory){ to.start, LONGEST, to.kept });
         with_null(to);
         too_long(to);
         other_policies();

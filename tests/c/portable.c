@@ -7,7 +7,7 @@
 
 #include "portable.h"
 
-enum { CALLS = 7, LONGEST = 400, ROOM = 3 * LONGEST };
+enum { CALLS = 8, LONGEST = 400, ROOM = 3 * LONGEST };
 
 struct job {
     unsigned call;
@@ -40,16 +40,19 @@ static answer run(const struct job *it, bool by_library, uint8_t *dst) {
     case 3: return CALL(decode, dst, it->room);
     case 4: return CALL(decode_with_case, dst, it->room, it->policy);
     case 5: return CALL(encode_grouped, dst, it->room, it->upper, it->every, it->sep);
+    case 6: return CALL(decode_spaced, dst, it->room, it->policy);
     default: return CALL(decode_grouped, dst, it->room, it->policy, it->every, it->sep);
     }
 }
 
-/* Writes digits for the call to read, in groups for call 6. In half of the texts a random byte is put somewhere. */
+/* Writes digits for the call to read, with white space for call 6, and in groups for call 7. In half of the texts a
+ * random byte is put somewhere. */
 static void fill(struct job *it) {
     static const char *const letters[] = { "0123456789aBcDeF", "0123456789abcdef", "0123456789ABCDEF" };
-    size_t span = it->call == 6 && it->every > 0 ? span_of(it->every) : WHOLE;
+    size_t span = it->call >= 6 && it->every > 0 ? span_of(it->every) : WHOLE;
     for (size_t at = 0; at < it->len; at++) {
         bool separates = at % span == span - 1;
+        if (separates && it->call == 6) it->sep = (uint8_t)" \t\n\f\r"[below(5)];
         it->src[at] = separates ? it->sep : (uint8_t)letters[it->policy % 3][below(16)];
     }
     if (it->len > 0 && below(2)) it->src[below(it->len)] = (uint8_t)below(256);

@@ -40,6 +40,9 @@ static void values() {
     count(faster_hex::encode("hello", 5) == "68656c6c6f", "encode of a pointer and a length");
     count(faster_hex::encode(std::string()).empty(), "encode of nothing");
     count(faster_hex::decode("00aBfF") == list, "decode");
+    count(faster_hex::decode_spaced(" 00a\nB fF\r\n") == list, "decode with white space");
+    count(faster_hex::decode_spaced("00 ABFF", policy::uppercase) == list, "white space and a policy");
+    count(refused([] { return faster_hex::decode_spaced("00 0g"); }).number == 4, "an invalid byte behind a space");
     unsigned char room[4] = {1, 1, 1, 1};
     count(faster_hex::decode("00abff", room, sizeof room, policy::lowercase) == 3 && room[3] == 1, "decode there");
     count(faster_hex::decode("00abff!", 6, room, sizeof room) == 3 && room[2] == 0xff, "a length before a place");

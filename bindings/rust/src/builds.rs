@@ -134,4 +134,5 @@ calls! {
     encode(src: *const u8, len: usize, dst: *mut u8, room: usize, upper: bool) -> Answer, "v3" "v3";
     decode(src: *const u8, len: usize, dst: *mut u8, room: usize) -> Answer, "v4" "vbmi";
     decode_with_case(src: *const u8, len: usize, dst: *mut u8, room: usize, policy: u8) -> Answer, "v4" "vbmi";
+    decode_spaced(src: *const u8, len: usize, dst: *mut u8, room: usize, policy: u8) -> Answer, "v4" "vbmi";
 }

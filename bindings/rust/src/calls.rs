@@ -92,6 +92,14 @@ pub fn decode(src: &[u8], dst: &mut [MaybeUninit<u8>], case: CheckCase) -> Resul
     })
 }
 
+/// Does the same as `decode`, but skips white space in `src`.
+#[inline]
+pub fn decode_spaced(src: &[u8], dst: &mut [MaybeUninit<u8>], case: CheckCase) -> Result<usize, Error> {
+    let (from, len, to, room) = (src.as_ptr(), src.len(), dst.as_mut_ptr().cast(), dst.len());
+    // SAFETY: as in `encode`.
+    result_of(unsafe { builds::decode_spaced(from, len, to, room, number_of(case)) })
+}
+
 #[cfg(test)]
 mod tests {
     use super::*;
@@ -166,6 +174,11 @@ mod tests {
             assert_eq!(told, portable::encode(src, &mut theirs[..room], upper));
             let told = decode(src, &mut ours[room..], case);
             assert_eq!(told, portable::decode(src, &mut theirs[room..], case));
+            let mut spaced = src.to_vec();
+            let every = 1 + below(state, 80);
+            spaced.iter_mut().step_by(every).for_each(|byte| *byte = b" \t\n\x0c\r"[below(state, 5)]);
+            let told = decode_spaced(&spaced, &mut ours[room..], case);
+            assert_eq!(told, portable::decode_spaced(&spaced, &mut theirs[room..], case));
             // SAFETY: all bytes were written at first.
             let bytes = places.map(|it| it.map(|byte| unsafe { byte.assume_init() }));
             assert_eq!(bytes[0], bytes[1]);

@@ -112,6 +112,55 @@ pub fn hex_decode_with_case<'a>(
     decode_into(src, unsafe { room(dst) }, check_case)
 }
 
+/// Decodes digits of either case into the front of `dst`, and skips ASCII white space among them, also between
+/// the two digits of a byte. It returns the bytes there. The rest of `dst` is unchanged.
+///
+/// White space is what [`u8::is_ascii_whitespace`] says. This call is not constant time: do not use it for keys.
+///
+/// # Errors
+///
+/// The first that applies; `dst` is then unchanged:
+///
+/// 1. [`Error::OddLength`] if the number of bytes that are not white space is odd;
+/// 2. [`Error::OutputTooSmall`] if `dst` is shorter than half of that number;
+/// 3. [`Error::InvalidChar`] with the first byte that is neither white space nor a digit, and its index in `src`.
+///
+/// ```
+/// let mut bytes = [0xa5; 4];
+/// assert_eq!(faster_hex::hex_decode_spaced(b"00 a\r\nBcD\n", &mut bytes)?, [0, 0xab, 0xcd]);
+/// assert_eq!(bytes, [0, 0xab, 0xcd, 0xa5]);
+/// # Ok::<(), faster_hex::Error>(())
+/// ```
+#[inline]
+pub fn hex_decode_spaced<'a>(src: &[u8], dst: &'a mut [u8]) -> Result<&'a mut [u8], Error> {
+    hex_decode_spaced_with_case(src, dst, CheckCase::None)
+}
+
+/// Like [`hex_decode_spaced`], under a policy for letter case.
+///
+/// # Errors
+///
+/// Those of [`hex_decode_spaced`], in its order. A letter of the wrong case is an invalid byte.
+///
+/// ```
+/// use faster_hex::{hex_decode_spaced_with_case, CheckCase};
+///
+/// let mut bytes = [0; 2];
+/// assert_eq!(hex_decode_spaced_with_case(b"AB 01", &mut bytes, CheckCase::Upper)?, [0xab, 1]);
+/// # Ok::<(), faster_hex::Error>(())
+/// ```
+#[inline]
+pub fn hex_decode_spaced_with_case<'a>(
+    src: &[u8],
+    dst: &'a mut [u8],
+    check_case: CheckCase,
+) -> Result<&'a mut [u8], Error> {
+    // SAFETY: the call writes only decoded bytes there.
+    let room = unsafe { room(dst) };
+    let written = calls::decode_spaced(src, room, check_case)?;
+    Ok(&mut dst[..written])
+}
+
 /// Decodes digits of either case to an array of exactly `N` bytes. This needs no buffer and no allocator.
 ///
 /// # Errors
@@ -267,6 +316,34 @@ mod tests {
             let written = answer.map_or(0, <[u8]>::len);
             assert_eq!(room[..written], *answer.unwrap_or(&[]));
             assert!(room[written..].iter().all(|&byte| byte == 0xa5));
+        }
+    }
+
+    #[test]
+    fn white_space_is_skipped_at_each_place() {
+        for len in 0..100 {
+            let digits: Vec<u8> = (0..len).map(|at| b"0123456789aBcDeF"[at % 16]).collect();
+            let mut bytes = [0xa5; 50];
+            let answer = hex_decode(&digits, &mut bytes).map(|bytes| bytes.to_vec());
+            for (at, space) in (0..=len).flat_map(|at| b" \t\n\x0c\r".map(|space| (at, space))) {
+                let (front, back) = digits.split_at(at);
+                let mut room = [0xa5; 50];
+                let told = hex_decode_spaced(&[front, &[space], back].concat(), &mut room);
+                assert_eq!(told.map(|bytes| bytes.to_vec()), answer);
+                assert_eq!(room, bytes);
+            }
+        }
+        let wanted: [(&[u8], CheckCase, Error); 5] = [
+            (b" 0g0 h00 g", CheckCase::None, ODD),
+            (b" 0g0 h0 0g0", CheckCase::None, small(4)),
+            (b" 0\x0bg0", CheckCase::None, invalid(2, 0x0b)),
+            (b" 0g 0h", CheckCase::None, invalid(2, b'g')),
+            (b"0 1F\nF", CheckCase::Lower, invalid(3, b'F')),
+        ];
+        for (text, case, error) in wanted {
+            let mut room = [0xa5; 3];
+            assert_eq!(hex_decode_spaced_with_case(text, &mut room, case), Err(error));
+            assert_eq!(room, [0xa5; 3]);
         }
     }
 

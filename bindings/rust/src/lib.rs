@@ -39,7 +39,7 @@
 //! - Each byte becomes two digits, in the order of the bytes. Leading zeros stay, because the digits
 //!   are not read as a number.
 //! - Decoding takes all of its source: an even number of digits. `0x`, white space, separators and everything else
-//!   that is no digit are errors. You need not test the digits first.
+//!   that is no digit are errors. Only [`hex_decode_spaced`] skips white space. You need not test the digits first.
 //! - An empty source is valid.
 //! - If several things are wrong, a call returns the [`Error`] that comes first in the order that its page lists.
 //! - [`hex_check`] tests each byte, but not how many there are, so it accepts an odd number of digits.

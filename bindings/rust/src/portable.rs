@@ -45,6 +45,29 @@ pub fn encode(src: &[u8], dst: &mut [MaybeUninit<u8>], upper: bool) -> Result<us
     Ok(required)
 }
 
+/// Does the same as `decode`, but skips white space in `src`.
+pub fn decode_spaced(src: &[u8], dst: &mut [MaybeUninit<u8>], case: CheckCase) -> Result<usize, Error> {
+    let solid = |byte: &u8| !byte.is_ascii_whitespace();
+    let digits = src.iter().filter(|byte| solid(byte)).count();
+    if digits % 2 == 1 {
+        return Err(Error::OddLength);
+    }
+    let required = digits / 2;
+    let too_small = Error::OutputTooSmall { required };
+    let bytes = dst.get_mut(..required).ok_or(too_small)?;
+    let stray = |byte: &u8| solid(byte) && value_of(*byte, case).is_none();
+    if let Some(index) = src.iter().position(stray) {
+        let byte = src[index];
+        return Err(Error::InvalidChar { index, byte });
+    }
+    let mut values = src.iter().filter_map(|&byte| value_of(byte, case));
+    for byte in bytes {
+        let mut value = || values.next().unwrap_or(0);
+        byte.write(16 * value() + value());
+    }
+    Ok(required)
+}
+
 /// Writes the bytes that `src` spells to the front of `dst`, and returns how many.
 pub fn decode(src: &[u8], dst: &mut [MaybeUninit<u8>], case: CheckCase) -> Result<usize, Error> {
     if src.len() % 2 == 1 {

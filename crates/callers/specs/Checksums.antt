@@ -3,7 +3,8 @@ use Rattle.std.specs.Prelude.{◌≡◌, ℕ, ◌*◌, ◌%◌, ◌^◌, bit_xor
 use Rattle.std.specs.Io.KnownBytes.{Consumes, IsAtEnd}
 use Rattle.hex_core.specs.declared.digit.CheckCase.TheVariants as policy
 use Rattle.hex_core.specs.Text.{Spells}
-use Rattle.hex_io.specs.Reading.{spaced, unspaced}
+use Rattle.hex_io.specs.Reading.{spaced}
+use Rattle.hex_codec.specs.Spaced.{unspaced}
 use Rattle.hex_io.specs.Stream.{RefusedBy}
 use Rattle.hex_io.specs.declared.stream.StreamFault.{StreamFault}
 use Rattle.hex_io.specs.declared.stream.StreamFault.TheVariants.{Codec, Read, Write}

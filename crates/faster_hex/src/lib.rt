@@ -41,8 +41,9 @@ pub use crate::option_modules::{
 pub use hex_codec::{
     Group, decode, encode, grouped, heapless_08, hex_append, hex_append_into, hex_append_upper,
     hex_check, hex_check_with_case, hex_decode, hex_decode_array, hex_decode_array_with_case,
-    hex_decode_into, hex_decode_vec, hex_decode_vec_with_case, hex_decode_with_case, hex_encode,
-    hex_encode_into, hex_encode_upper, hex_string, hex_string_upper,
+    hex_decode_into, hex_decode_spaced, hex_decode_vec, hex_decode_vec_with_case,
+    hex_decode_with_case, hex_encode, hex_encode_into, hex_encode_upper, hex_string,
+    hex_string_upper, spaced,
 };
 pub use hex_core::{
     Backend, CheckCase, Error, Probe, SliceProbe, backends, covered, digit_value, locate,

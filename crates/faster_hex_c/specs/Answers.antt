@@ -12,6 +12,7 @@ use Rattle.hex_codec.specs.declared.grouped.GroupFault.{GroupFault}
 use Rattle.hex_codec.specs.declared.grouped.GroupFault.TheVariants as fault
 use Rattle.hex_codec.specs.GroupCalls.{Reads, WritesGrouped}
 use Rattle.hex_codec.specs.GroupedWriting.{MakesGroup}
+use Rattle.hex_codec.specs.Spaced.{DecodesSpaced}
 use Rattle.faster_hex_c.specs.declared.Answer.{Answer}
 
 -- the policy that a number names, or `None` if it names none
@@ -50,6 +51,12 @@ EncodesTo upper bytes old new answer = (result : Result ℕ Error) × Encodes up
 -- decoding under the policy that the number n names. If n names none, the destination is unchanged
 abbrev pub DecodesBy : ℕ → List ℕ → List ℕ → List ℕ → Answer → Type 0
 DecodesBy n s old new answer = MatchOption (policy_of n) ((answer ≡ no_policy) × (new ≡ old)) (λ c. DecodesTo c s old new answer)
+
+-- decoding where white space is skipped, as the library does it, under the policy that the number n names. If n
+-- names none, the destination is unchanged
+abbrev pub DecodesSpacedBy : ℕ → List ℕ → List ℕ → List ℕ → Answer → Type 0
+DecodesSpacedBy n s old new answer = MatchOption (policy_of n) ((answer ≡ no_policy) × (new ≡ old))
+    (λ c. (result : Result ℕ Error) × DecodesSpaced c s old new result × (answer ≡ answer_of result))
 
 -- the answer is true exactly if all bytes are valid under the policy that the number n names, and false if n
 -- names none

@@ -9,9 +9,10 @@ ghost use Rattle.std.specs.Prelude.{◌≡◌, ◌↔◌, IsTrue, None};
 ghost use Rattle.hex_core.specs.declared.digit.CheckCase.TheVariants as policy;
 ghost use Rattle.hex_core.specs.Search.{first_invalid};
 ghost use Rattle.faster_hex_c.specs.Answers.{ChecksBy, DecodesBy, DecodesTo, EncodesTo, FindsInvalid, answer_of, policy_of};
-ghost use Rattle.faster_hex_c.specs.Answers.{DecodesGrouped, EncodesGrouped, group_answer_of};
+ghost use Rattle.faster_hex_c.specs.Answers.{DecodesGrouped, DecodesSpacedBy, EncodesGrouped, group_answer_of};
 
 use hex_codec::grouped::{read_by, write_by};
+use hex_codec::spaced::decode_by;
 use hex_codec::{Group, GroupFault};
 use hex_core::{Backend, CheckCase, Error, Vectors, backends};
 
@@ -209,6 +210,20 @@ pub extern "C" fn faster_hex_decode_with_case(src: Source, dst: Destination, cas
 {
     match policy(case) {
         Some(case) => answer_of(plan().decode_into(src.0, dst.0, case)),
+        None => NO_POLICY,
+    }
+}
+
+/// Decodes `src` into the start of `dst`, if the policy accepts its digits, and skips ASCII white
+/// space among them. The policies are those of [`faster_hex_decode_with_case`]. The errors are
+/// status 5, 1, 2 and then 3, in the order in which they are tested. Only bytes that are not white
+/// space count for status 1 and 2. An error leaves all of `dst` unchanged.
+#[unsafe(no_mangle)]
+pub extern "C" fn faster_hex_decode_spaced(src: Source, dst: Destination, case: u8) -> Answer
+    ensures { DecodesSpacedBy case src.entry.0.now dst.entry.0.now dst.exit.0.now result }
+{
+    match policy(case) {
+        Some(case) => answer_of(decode_by(plan(), src.0, dst.0, case)),
         None => NO_POLICY,
     }
 }

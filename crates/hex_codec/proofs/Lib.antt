@@ -5,4 +5,5 @@ mod GroupTextLemmas
 pub mod ListLemmas
 mod SpelledLemmas
 mod PartLemmas
+pub mod SpacedLemmas
 mod WriteLemmas

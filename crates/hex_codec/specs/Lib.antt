@@ -7,3 +7,5 @@ pub mod GroupMessage
 pub mod GroupedWriting
 pub mod GroupedReading
 pub mod GroupRule
+pub mod Spaced
+pub mod inside

@@ -10,6 +10,7 @@ pub mod grouped;
 pub mod heapless_08;
 pub mod laws;
 mod pieces;
+pub mod spaced;
 pub mod strings;
 
 pub use crate::decode::{
@@ -22,3 +23,4 @@ pub use crate::encode::{
 };
 pub use crate::group::Group;
 pub use crate::grouped::GroupFault;
+pub use crate::spaced::hex_decode_spaced;

@@ -1,8 +1,8 @@
 -- Sources that come in chunks.
 use Rattle.std.proofs.Common.{◌≡◌, ℕ, ◌+◌, ◌*◌, ◌/◌, ◌^◌, ◌<◌, ◌≤◌, Bool, true, false, List, [], ◌∷◌, ◌++◌, length, length-append}
 use Rattle.std.proofs.Common.{take, drop, length-drop, ◌-◌, slice_index, Option, Some, None, Result, Ok, Err, MatchResult}
-use Rattle.std.proofs.Common.{refl, sym, ◌∙◌, ap, append_assoc, arith, not}
-use Rattle.std.specs.Prelude.{◌↔◌, ◌&&◌, filter, option_map, position, IsSome}
+use Rattle.std.proofs.Common.{refl, sym, ◌∙◌, ap, append_assoc, arith}
+use Rattle.std.specs.Prelude.{◌↔◌, option_map, IsSome}
 use Rattle.std.specs.Option.{ForSome, option_to_list}
 use Rattle.std.specs.Result.{IsOk}
 use Rattle.std.proofs.Math.Seq.{drop-append_seam, take-append_seam}
@@ -10,10 +10,8 @@ use Rattle.std.proofs.lemmas.Bool.Decides.{nat_tests}
 use Rattle.std.proofs.lemmas.Grind.{common_steps}
 use Rattle.std.proofs.lemmas.List.{drop-drop, take_rest}
 use Rattle.std.proofs.lemmas.List.Elements.{filter-append}
-use Rattle.std.proofs.lemmas.List.Filters.{length-filter_both}
 use borrow.Rule.Slice.PartMut.{put_mid}
 use Rattle.hex_core.specs.declared.digit.CheckCase.{CheckCase}
-use Rattle.hex_core.specs.declared.digit.CheckCase.TheVariants as policy
 use Rattle.hex_core.specs.declared.error.Error.{Error}
 use Rattle.hex_core.specs.declared.error.Error.TheVariants.{InvalidChar}
 use Rattle.hex_core.specs.Digit.{value}
@@ -22,11 +20,13 @@ use Rattle.hex_core.specs.Text.{Spells, with_front}
 use Rattle.hex_core.proofs.JoinLemmas.{back_at, spells-joined, valid-both, valid-parts}
 use Rattle.hex_core.proofs.LawProofs.{valid-spelled}
 use Rattle.hex_core.proofs.PositionLemmas.{none_joined, position-joined}
-use Rattle.hex_core.proofs.SearchLemmas.{has_value, lacks, none_valid}
+use Rattle.hex_core.proofs.SearchLemmas.{none_valid}
 use Rattle.hex_codec.proofs.ListLemmas.{put-behind}
+use Rattle.hex_codec.proofs.SpacedLemmas.{none-invalid-spaced, unspaced-le}
 use Rattle.hex_io.specs.Decoder.{feed_refusal, pairs_more}
-use Rattle.hex_io.specs.Reading.{SpellsBut, digits_in, first_invalid_read, is_solid, is_invalid_read}
-use Rattle.hex_io.specs.Reading.{invalid_read_of, unspaced}
+use Rattle.hex_io.specs.Reading.{SpellsBut, digits_in, first_invalid_read, is_invalid_read}
+use Rattle.hex_codec.specs.Spaced.{is_solid}
+use Rattle.hex_io.specs.Reading.{invalid_read_of}
 use Rattle.hex_io.specs.declared.stream.decoder.Reading.{Reading}
 use Rattle.hex_io.specs.inside.{invalid_read_behind}
 
@@ -39,39 +39,18 @@ digits-joined c true a b = filter-append is_solid a b
 digits-joined c false a b = refl
 
 pub digits-le : (c : CheckCase) (skips : Bool) (s : List ℕ) → length (digits_in (record { case = c; skips = skips }) s) ≤ length s
-digits-le c true s = omega (arith, length-filter_both is_solid (λ b. not (is_solid b)) (λ _. refl) s)
+digits-le c true s = unspaced-le s
 digits-le c false s = omega arith
-
--- a test passes at none that a filter keeps exactly where both pass at none
-none-kept : (p q : ℕ → Bool) (s : List ℕ) → (position (λ b. q b && p b) s ≡ None) ↔ (position p (filter q s) ≡ None)
-none-kept p q [] = (λ _. refl, λ _. refl)
-none-kept p q (b ∷ s) = by_first (q b) (p b) refl refl (none-kept p q s)
-  where
-    by_first : (t u : Bool) → q b ≡ t → p b ≡ u → (position (λ b. q b && p b) s ≡ None) ↔ (position p (filter q s) ≡ None) → (position (λ b. q b && p b) (b ∷ s) ≡ None) ↔ (position p (filter q (b ∷ s)) ≡ None)
-    by_first true u kept is rest = let both = none_joined (λ b. q b && p b) (b ∷ []) s in let behind = none_joined p (b ∷ []) (filter q s) in rw (kept, is) (grind (arith, nat_tests, rest, both, behind))
-    by_first false u left is rest = let both = none_joined (λ b. q b && p b) (b ∷ []) s in rw left (grind (arith, nat_tests, rest, both))
 
 -- no byte is invalid exactly where all digits are valid
 pub digits-valid : (c : CheckCase) (skips : Bool) (s : List ℕ) → let r : Reading = record { case = c; skips = skips } in
     (first_invalid_read r s ≡ None) ↔ (first_invalid c (digits_in r s) ≡ None)
-digits-valid c true s = none-kept (lacks c) is_solid s
+digits-valid c true s = none-invalid-spaced c s
 digits-valid c false s = (λ none. none, λ none. none)
 
 pub none-invalid : (c : CheckCase) (skips : Bool) (s : List ℕ) → let r : Reading = record { case = c; skips = skips } in
     first_invalid c (digits_in r s) ≡ None → first_invalid_read r s ≡ None
 none-invalid c skips s valid = (digits-valid c skips s).1 valid
-
--- digits are no white space
-digit-solid : (c : CheckCase) (b : ℕ) → lacks c b ≡ false → is_solid b ≡ true
-digit-solid policy.None b is = grind (arith, nat_tests, is)
-digit-solid policy.Lower b is = grind (arith, nat_tests, is)
-digit-solid policy.Upper b is = grind (arith, nat_tests, is)
-
-pub digits-solid : (c : CheckCase) (s : List ℕ) → first_invalid c s ≡ None → unspaced s ≡ s
-digits-solid c [] none = refl
-digits-solid c (b ∷ s) none =
-    let rest = digits-solid c s ((none_joined (lacks c) (b ∷ []) s).0 none).1 in
-    rw (digit-solid c b (has_value c (b ∷ s) 0 none (omega arith)), rest) refl
 
 -- ---- single digits
 

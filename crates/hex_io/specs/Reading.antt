@@ -1,13 +1,13 @@
 -- How a source is read: as digits alone, or as digits with white space among them, which is skipped.
-use Rattle.std.specs.Prelude.{◌≡◌, ℕ, Bool, true, false, not, ◌&&◌, ◌||◌, if◌then◌else◌, List, ◌++◌, filter, position}
+use Rattle.std.specs.Prelude.{◌≡◌, ℕ, Bool, true, false, not, ◌&&◌, ◌||◌, if◌then◌else◌, List, ◌++◌, position}
 use Rattle.std.specs.Prelude.{slice_index, is_none, Option, None, option_map}
-use Rattle.std.specs.Char.{is_ascii_whitespace}
 use Rattle.hex_core.specs.declared.digit.CheckCase.{CheckCase}
 use Rattle.hex_core.specs.declared.error.Error.{Error}
 use Rattle.hex_core.specs.declared.error.Error.TheVariants.{InvalidChar}
 use Rattle.hex_core.specs.Digit.{value}
 use Rattle.hex_core.specs.Search.{first_invalid}
 use Rattle.hex_core.specs.Text.{Spells}
+use Rattle.hex_codec.specs.Spaced.{is_solid, unspaced}
 use Rattle.hex_io.specs.declared.stream.decoder.Reading.{Reading}
 
 -- digits alone, under the policy c
@@ -17,14 +17,6 @@ plain c = record { case = c; skips = false }
 -- digits under the policy c, with ASCII white space among them that is skipped
 abbrev pub spaced : CheckCase → Reading
 spaced c = record { case = c; skips = true }
-
--- whether a byte is not ASCII white space
-abbrev pub is_solid : ℕ → Bool
-is_solid b = not (is_ascii_whitespace b)
-
--- a source without its white space
-abbrev pub unspaced : List ℕ → List ℕ
-unspaced s = filter is_solid s
 
 -- the bytes of a source that should be digits
 abbrev pub digits_in : Reading → List ℕ → List ℕ

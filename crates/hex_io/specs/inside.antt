@@ -9,7 +9,8 @@ use Rattle.hex_core.specs.Search.{first_invalid}
 use Rattle.hex_core.specs.Text.{with_front}
 use Rattle.hex_codec.specs.declared.group.Group.{Group}
 use Rattle.hex_codec.specs.GroupedWriting.{piece_len}
-use Rattle.hex_io.specs.Reading.{SpellsBut, first_invalid_read, unspaced}
+use Rattle.hex_io.specs.Reading.{SpellsBut, first_invalid_read}
+use Rattle.hex_codec.specs.Spaced.{unspaced}
 use Rattle.hex_io.specs.declared.stream.decoder.Reading.{Reading}
 
 -- the error of the first byte of a chunk that should be a digit and is not, if `had` bytes come before the

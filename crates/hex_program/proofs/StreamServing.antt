@@ -13,7 +13,8 @@ use Rattle.hex_core.specs.Text.{lowercase, text}
 use Rattle.hex_core.proofs.LawProofs.{valid-spelled}
 use Rattle.hex_codec.specs.GroupedWriting.{pieces}
 use Rattle.hex_codec.proofs.GroupLemmas.{pieces-next}
-use Rattle.hex_io.specs.Reading.{SpellsBut, spaced, unspaced}
+use Rattle.hex_io.specs.Reading.{SpellsBut, spaced}
+use Rattle.hex_codec.specs.Spaced.{unspaced}
 use Rattle.hex_io.specs.SinkState.{Puts, SinkState, Stops, Takes}
 use Rattle.hex_io.specs.SinkLaws.{StopsInARow, TakesInARow}
 use Rattle.hex_io.specs.Stream.{EndsDecoding, EndsEncoding, RefusedBy, Wrote, WroteBefore}

@@ -8,7 +8,8 @@ use Rattle.hex_core.specs.declared.error.Error.{Error}
 use Rattle.hex_core.specs.declared.error.Error.TheVariants.{OddLength, Overflow}
 use Rattle.hex_core.specs.Text.{Spells, lowercase, text}
 use Rattle.hex_codec.specs.GroupedWriting.{pieces}
-use Rattle.hex_io.specs.Reading.{spaced, unspaced}
+use Rattle.hex_io.specs.Reading.{spaced}
+use Rattle.hex_codec.specs.Spaced.{unspaced}
 use Rattle.hex_io.specs.Stream.{RefusedBy, Wrote, longest_chunk}
 use Rattle.hex_program.specs.Serving.{WritesPart, Outputs, failure_text, status_after, stream_failure_text}
 use Rattle.hex_program.specs.declared.failure.Failure.{Failure}

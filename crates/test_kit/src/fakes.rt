@@ -93,6 +93,11 @@ impl<'a> Giver<'a> {
         self.reads <= chunks.unwrap_or(0).saturating_add(2)
     }
 
+    /// Returns whether no read was tried, not even one that was interrupted.
+    pub fn is_unread(&self) -> bool {
+        self.reads == 0 && self.halted == 0
+    }
+
     /// Returns how many bytes were not given yet.
     pub fn left(&self) -> usize {
         self.bytes.count.saturating_sub(self.place)

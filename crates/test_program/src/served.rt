@@ -115,7 +115,7 @@ fn ends(
     let is_told = is_done(&out, is_flush, setup.is_buffered && want.status == 0)
         && is_done(&err, is_message, is_message);
     let is_read = giver.ended < 2 && giver.is_read_by(65_536);
-    let is_unread = is_op(words, is_stream) || giver.reads == 0;
+    let is_unread = is_op(words, is_stream) || giver.is_unread();
     let is_left = giver.left().min(input.len()) == want.left;
     let is_asked = refusing.asked() == want.asked || !setup.refuses();
     let is_settled = is_asked && refusing.is_settled(refusing.asked());

@@ -42,7 +42,8 @@ fn feed_all(decoder: &mut Decoder, given: Given<'_>, dst: &mut [u8]) -> (usize, 
 
 /// `feed POLICY SEED DIGITS`: the bytes of the whole pairs before the first invalid byte, or of all,
 /// and after them the refusal, if there is one. A cutting that is refused has written those of its
-/// chunks before. The decoder then stands after all digits, or not past the invalid one.
+/// chunks before. The decoder then stands after all digits, or not past the invalid one. Another
+/// decoder is fed the whole pairs at once, and writes all bytes of the row.
 pub fn feed_row(row: &mut Row, to: &mut Destination) -> bool {
     let given = Given::read(&mut row.call, &mut row.given, to.from);
     row.answer.take_bytes(&mut row.wanted);
@@ -55,13 +56,15 @@ pub fn feed_row(row: &mut Row, to: &mut Destination) -> bool {
     let (written, fed) = feed_all(&mut decoder, given, to.lend(given.src.len() / 2));
     let position = decoder.position();
     let ended = if fed.is_ok() { decoder.finish() } else { fed };
-    let is_behind = match ended {
-        Err(Error::InvalidChar { index, .. }) => position <= index,
-        _ => position == given.src.len(),
+    let (is_behind, valid) = match ended {
+        Err(Error::InvalidChar { index, .. }) => (position <= index, index),
+        _ => (position == given.src.len(), position),
     };
+    let pairs = given.src.get(..valid / 2 * 2).unwrap_or_default();
     is_behind
         && ended == want
         && written == position / 2
-        && written <= row.wanted.len()
         && to.holds(row.wanted.get(..written).unwrap_or_default())
+        && Decoder::new(given.case).feed(pairs, to.lend(valid / 2)) == Ok(row.wanted.len())
+        && to.holds(row.wanted.as_slice())
 }

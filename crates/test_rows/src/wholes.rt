@@ -102,7 +102,17 @@ pub fn owned_row(row: &mut Row, to: &mut Destination) -> bool {
         None
     };
     row.answer.take_bytes(&mut row.wanted);
-    Read::new(src, case, place).all_leave(&mut row.note, row.wanted.as_slice(), to)
+    let bytes = row.wanted.as_slice();
+    let valid = src.get(..place.unwrap_or(src.len())).unwrap_or_default();
+    Read::new(src, case, place).all_leave(&mut row.note, bytes, to)
+        && are_of_pairs(valid, case, bytes, to)
+}
+
+// Whether these are all bytes of the whole pairs of valid digits.
+fn are_of_pairs(digits: &[u8], case: CheckCase, bytes: &[u8], to: &mut Destination) -> bool {
+    let pairs = digits.get(..digits.len() / 2 * 2).unwrap_or_default();
+    let decoded = Backend::plain().decode_into(pairs, to.lend(bytes.len()), case);
+    decoded == Ok(bytes.len()) && to.holds(bytes)
 }
 
 // Whether each plan, and the calls that name none, write this text of some bytes.

@@ -15,7 +15,8 @@ ghost use Rattle.std.specs.Option.{ForSome, option_to_list};
 ghost use Rattle.hex_core.specs.Digit.{value};
 ghost use Rattle.hex_core.specs.Search.{first_invalid};
 ghost use Rattle.hex_core.specs.Text.{Spells};
-ghost use Rattle.hex_io.specs.Reading.{digits_in, first_invalid_read, plain, spaced, unspaced};
+ghost use Rattle.hex_io.specs.Reading.{digits_in, first_invalid_read, plain, spaced};
+ghost use Rattle.hex_codec.specs.Spaced.{unspaced};
 ghost use Rattle.hex_io.specs.inside.{DecodesPairs, invalid_read_behind};
 
 use crate::laws::every_decoder_has_been_fed;

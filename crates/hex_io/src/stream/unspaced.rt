@@ -2,7 +2,7 @@
 
 ghost use Rattle.std.specs.Prelude.{◌≡◌, ◌+◌, ◌*◌, ◌≤◌, length, take};
 ghost use Rattle.std.specs.Simd.Lanes.{chunk, put_chunk};
-ghost use Rattle.hex_io.specs.Reading.{unspaced};
+ghost use Rattle.hex_codec.specs.Spaced.{unspaced};
 ghost use Rattle.hex_io.specs.inside.{HasCopied};
 
 use std::simd::prelude::*;

@@ -8,7 +8,8 @@ use Rattle.std.proofs.lemmas.List.{get_or-replicate, length-replicate}
 use Rattle.hex_core.specs.declared.digit.CheckCase.{CheckCase}
 use Rattle.hex_core.specs.Digit.{value}
 use Rattle.hex_core.specs.Text.{Spells}
-use Rattle.hex_io.specs.Reading.{SpellsBut, digits_in, is_solid, unspaced}
+use Rattle.hex_io.specs.Reading.{SpellsBut, digits_in}
+use Rattle.hex_codec.specs.Spaced.{is_solid, unspaced}
 use Rattle.hex_io.proofs.DecoderLemmas.{spells-but, spells-none}
 use Rattle.hex_io.proofs.laws.every_decoder_has_been_fed.Goals as goal
 

@@ -4,7 +4,8 @@ use Rattle.std.proofs.Math.Bool.{and-eq-true_iff}
 use Rattle.std.proofs.lemmas.List.{length-take-le}
 use Rattle.std.proofs.lemmas.List.Elements.{filter-append}
 use Rattle.hex_core.proofs.PositionLemmas.{none_joined}
-use Rattle.hex_io.specs.Reading.{is_solid, is_invalid_read, spaced, unspaced}
+use Rattle.hex_io.specs.Reading.{is_invalid_read, spaced}
+use Rattle.hex_codec.specs.Spaced.{is_solid, unspaced}
 use Rattle.hex_io.proofs.DecoderLemmas.{digits-le, digits-valid}
 use Rattle.hex_io.proofs.stream.decoder.survey.Goals as goal
 

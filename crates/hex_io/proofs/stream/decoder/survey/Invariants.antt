@@ -2,7 +2,8 @@
 use Rattle.std.proofs.Common.{◌≡◌, List, ℕ, ◌++◌, None, length}
 use Rattle.std.specs.Prelude.{◌↔◌, IsTrue}
 use Rattle.std.specs.Slice.Iter.{chunks_rest, chunks_size}
-use Rattle.hex_io.specs.Reading.{first_invalid_read, spaced, unspaced}
+use Rattle.hex_io.specs.Reading.{first_invalid_read, spaced}
+use Rattle.hex_codec.specs.Spaced.{unspaced}
 use Rattle.hex_io.proofs.stream.decoder.survey.Given as goal
 
 abbrev pub invariant-loop-block : goal.invariant-loop-block

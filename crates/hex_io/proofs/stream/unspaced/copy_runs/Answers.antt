@@ -12,7 +12,7 @@ use Rattle.std.proofs.lemmas.Nat.{shr-shr}
 use Rattle.std.proofs.lemmas.Simd.{get_or-chunk, leading_from_mask_l, length-chunk, put_chunk_is, trailing_mask_l, bitmask_splat, length-put_chunk}
 use lib.Count.{count_trailing_zeros}
 use mir.Val.{bool_byte}
-use Rattle.hex_io.specs.Reading.{is_solid, unspaced}
+use Rattle.hex_codec.specs.Spaced.{is_solid, unspaced}
 use Rattle.hex_io.specs.inside.{HasCopied}
 use Rattle.hex_io.proofs.stream.unspaced.copy_runs.Goals as goal
 

@@ -1,5 +1,6 @@
 use Rattle.std.proofs.Common.{rules, arith, ◌≡◌, ◌∙◌, ◌+◌, ◌^◌, ◌<◌, length, refl, sym}
-use Rattle.hex_io.specs.Reading.{digits_in, unspaced}
+use Rattle.hex_io.specs.Reading.{digits_in}
+use Rattle.hex_codec.specs.Spaced.{unspaced}
 use Rattle.hex_io.proofs.DecoderLemmas.{count-but, none-invalid, refused-byte, invalid-behind-all}
 use Rattle.hex_io.proofs.stream.decoder.Decoder.feed_long.Goals as goal
 

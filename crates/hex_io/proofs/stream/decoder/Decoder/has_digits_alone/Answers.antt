@@ -1,5 +1,5 @@
 use Rattle.std.proofs.Common.{rules, ◌≡◌, true}
-use Rattle.hex_io.proofs.DecoderLemmas.{digits-solid}
+use Rattle.hex_codec.proofs.SpacedLemmas.{digits-solid}
 use Rattle.hex_io.proofs.stream.decoder.Decoder.has_digits_alone.Goals as goal
 
 pub returns-else-not-self-clause-alone : goal.returns-else-not-self-clause-alone
