@@ -62,13 +62,12 @@ static bool has(unsigned word, unsigned bits) {
     return (word & bits) == bits;
 }
 
-/* The level of x86-64 that a processor and its system have: 4, 3 or 2, or 5 for level 4 with AVX-512 VBMI. For the
- * first level it is 0. */
+/* The level of x86-64 that a processor and its system have, from 1 to 4, or 5 for level 4 with AVX-512 VBMI. */
 static unsigned char level_of(struct processor it) {
     unsigned basic = it.highest >= 1 ? it.basic : 0, wide = it.highest >= 7 ? it.wide : 0;
     unsigned extended = it.highest_extended >= 0x80000001 ? it.extended : 0;
-    if (!has(basic, bit_SSE3 | bit_SSSE3 | bit_SSE4_1 | bit_SSE4_2 | bit_POPCNT | bit_CMPXCHG16B)) return 0;
-    if (!has(extended, bit_LAHF_LM)) return 0;
+    if (!has(basic, bit_SSE3 | bit_SSSE3 | bit_SSE4_1 | bit_SSE4_2 | bit_POPCNT | bit_CMPXCHG16B)) return 1;
+    if (!has(extended, bit_LAHF_LM)) return 1;
     if (!has(basic, bit_FMA | bit_MOVBE | bit_OSXSAVE | bit_AVX | bit_F16C)) return 2;
     if (!has(wide, bit_AVX2 | bit_BMI | bit_BMI2) || !has(extended, bit_LZCNT)) return 2;
     if (!has(it.saved, 0x06)) return 2; /* the registers of SSE and AVX */
@@ -89,16 +88,17 @@ static struct processor processor(void) {
     return it;
 }
 
+/* It is 0 until the constructor has asked the processor. */
 static atomic_uchar level;
 
 __attribute__((constructor)) static void raise_level(void) {
     level = level_of(processor());
 }
 
-/* The names of the builds, by their levels. There is no level 1. The texts are in one array, because pointers to them
- * would have to be written when a program is loaded. */
+/* The names of the builds, by their levels. The texts are in one array, because pointers to them would have to be
+ * written when a program is loaded. */
 static const char *chosen_build(void) {
-    static const char names[][16] = { "x86-64", "", "x86-64-v2", "x86-64-v3", "x86-64-v4", "x86-64-vbmi" };
+    static const char names[][16] = { "x86-64", "x86-64", "x86-64-v2", "x86-64-v3", "x86-64-v4", "x86-64-vbmi" };
     return names[atomic_load_explicit(&level, memory_order_relaxed)];
 }
 

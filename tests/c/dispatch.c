@@ -58,13 +58,13 @@ static struct processor exactly(unsigned level) {
 static void by_bits(void) {
     const struct processor all = { ~0u, ~0u, ~0u, ~0u, ~0u, ~0u, ~0u }, none = { 0 };
     is_level("all bits", 0, all, 5);
-    is_level("no bit", 0, none, 0);
+    is_level("no bit", 0, none, 1);
     for (unsigned one = 2; one <= 5; one++) is_level("exactly level", one, exactly(one), one);
     for (int at = 0; at < WORDS; at++) {
         for (unsigned bit = 0; bit < 32; bit++) {
             const struct wants *wants = &WANTS[at];
             struct processor it = all, narrow = exactly(5);
-            unsigned wanted = wants->level_2 & BIT(bit) ? 0
+            unsigned wanted = wants->level_2 & BIT(bit) ? 1
                               : wants->level_3 & BIT(bit) ? 2
                               : wants->level_4 & BIT(bit) ? 3
                               : wants->level_5 & BIT(bit) ? 4 : 5;
@@ -80,13 +80,13 @@ static void by_bits(void) {
 static void by_leaves(void) {
     struct processor it = exactly(5);
     for (it.highest = 0; it.highest < 9; it.highest++) {
-        is_level("highest leaf", it.highest, it, it.highest >= 7 ? 5 : it.highest >= 1 ? 2 : 0);
+        is_level("highest leaf", it.highest, it, it.highest >= 7 ? 5 : it.highest >= 1 ? 2 : 1);
     }
     it = exactly(5);
     it.highest_extended = 0x80000000;
-    is_level("highest leaf", it.highest_extended, it, 0);
+    is_level("highest leaf", it.highest_extended, it, 1);
     it.highest_extended = 0; /* as on a processor without such leaves */
-    is_level("highest leaf", it.highest_extended, it, 0);
+    is_level("highest leaf", it.highest_extended, it, 1);
 }
 
 /* The processor supports all levels, but the system saves only some registers. Bits 0 to 2 are for the registers of the
@@ -108,13 +108,13 @@ static void here(void) {
     bool has_vbmi = __builtin_cpu_supports("avx512vbmi");
     is_level("the constructor's level", level, processor(), level);
     is_level("the compiler's level", level, processor(),
-             has_vbmi ? 5 : has_avx512 ? 4 : has_avx2 ? 3 : level < 3 ? level : 0);
+             has_vbmi ? 5 : has_avx512 ? 4 : has_avx2 ? 3 : level < 3 ? level : 1);
 }
 
 /* The name of the build that calls use at each level. */
 static void by_names(void) {
     static const struct { unsigned char level; const char *name; } NAMES[] = {
-        { 0, "x86-64" }, { 2, "x86-64-v2" }, { 3, "x86-64-v3" }, { 4, "x86-64-v4" },
+        { 0, "x86-64" }, { 1, "x86-64" }, { 2, "x86-64-v2" }, { 3, "x86-64-v3" }, { 4, "x86-64-v4" },
         { 5, "x86-64-vbmi" },
     };
     unsigned char kept = level;
