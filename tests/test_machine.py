@@ -14,6 +14,7 @@ import sys
 import time
 from functools import partial
 from pathlib import Path
+from types import SimpleNamespace
 
 import pytest
 
@@ -28,6 +29,7 @@ from machine.grouped import GROUPED, shown_grouped
 from machine.image import Image, linked
 from machine.forms import FORMS, WIDTHS
 from machine.instructions import EACH, TABLE
+from machine.replay import Replay
 from machine.state import LENGTH, STACK, State
 from machine.statements import CALLS, POLICIES, shown
 
@@ -503,6 +505,53 @@ def test_right_change(tmp_path, begin, change, jump):
     rules = fr"1 shrq \$9,%r9 => \0; {begin}", f"1 decq %r9 => {change}", f"1 jne 3b => {jump} 3b"
     image = assembled(tmp_path, changed("v3", "core_plain_check_long_outlined", rules), BUILDS["v3"][0])
     assert all_shown(image, "v3", "check", None, 513)
+
+
+# All indices but the last one.
+ALL = ((z3.BitVecVal(0, 64), z3.BitVecVal(2**64 - 1, 64)),)
+
+
+def other_state(state, register=None, **parts):
+    """A state that says something else: of a register, by a function of its value, or in other parts."""
+    it = state.copy()
+    vars(it).update(parts)
+    if register:
+        name, function = register
+        it.registers[name] = function(it.registers[name])
+    return it
+
+
+def wrong_claims(loop):
+    """Records of a loop that are wrong in one place, each with what is said of it."""
+    name = next(it for it in loop.moving if it in loop.state.registers)
+    one_more, too_far = (name, lambda it: values.plus(it, 1)), (name, lambda it: values.Value(it.term + loop.turn))
+    yield "another one", {"before": other_state(loop.before, one_more)}
+    for wrong in one_more, too_far, (name, lambda it: loop.before.registers[name]):
+        yield "another one|accesses something else", {"state": other_state(loop.state, wrong)}
+    yield "is not unknown", {"unknown": loop.unknown | {name}}
+    late = values.Value(loop.turn == 7)
+    for words, parts in (("a fact", {"facts": (*loop.state.facts, late)}), ("leaves bytes", {"valid": ALL}),
+                         ("leaves bytes", {"written": ALL}), ("something else", {"refused": (ALL,)}),
+                         ("flags", {"flags": {"c": (operator.not_, late)}})):
+        yield words, {"state": other_state(loop.state, **parts)}
+    yield "in another way", {"exits": []}
+    for wrong in ({"register": one_more}, {"facts": (late,)}, {"valid": ALL}, {"written": ALL}, {"at": 0},
+                  {"refused": (ALL, ALL)}, {"flags": {"c": (operator.not_, late)}}):
+        yield "in another way", {"exits": [other_state(it, **wrong) for it in loop.exits]}
+
+
+@pytest.mark.quick
+@pytest.mark.parametrize("call", ["encode", "check"])
+def test_wrong_claim(image, call):
+    """The second check of a loop refuses each wrong record, and takes the right one again, which it does not change."""
+    machine = next(shown(Image(image, 3), "v3", call, None, 513)).machine
+    for loop in machine.loops:
+        exits = [*loop.exits]
+        for words, wrong in wrong_claims(loop):
+            with pytest.raises(Refused, match=words):
+                Replay(machine, SimpleNamespace(**{**vars(loop), **wrong}))
+        Replay(machine, loop)
+        assert exits and loop.exits == exits
 
 
 # Loops whose bytes are changed at random: the build, the call, and the function that they are in.

@@ -212,7 +212,7 @@ class Machine:
             if zero and not asked.of:
                 it.gap = (zero[1], asked, step.name[1:]) if holds else \
                     (zero[1], apply(z3.Not, asked), opposite(step.name[1:]))
-            for head, loop in loops.items():
+            for head, loop in loops.items() if not self.is_trying else ():
                 loop.exits += [] if head <= it.at <= self.image.loops[head] else [it.copy()]
         self.left += [it for it, _ in outcomes[1:]]
         for it, _ in outcomes:
