@@ -139,17 +139,17 @@ class Replay:
         is_public = not value.of and not other.of and value.term.size() == other.term.size()
         return is_public and holds(known, self.at(value.term, turn) == other.term)
 
-    def has_no_turn(self, term):
-        return z3.substitute(term, (self.turn, self.turn + 1)).eq(term)
+    def has_no_turn(self, term, number=None):
+        """Whether a term does not depend on the turn. The term is kept, since its number stays valid only as long."""
+        number = number or term.get_id()
+        if number not in self.free:
+            self.free[number] = z3.substitute(term, (self.turn, self.turn + 1)).eq(term), term
+        return self.free[number][0]
 
     def is_free(self, value):
         """Whether a value does not depend on the turn, neither itself nor by the places of its bytes."""
-        key = value.id, value.of
-        if key not in self.free:
-            terms = [self.body.terms[it[0]] for it in value.of if it[0] in self.body.terms]
-            # The value is kept, since the number of its term stays valid only as long.
-            self.free[key] = all(map(self.has_no_turn, (value.term, *terms))), value
-        return self.free[key][0]
+        names, terms = {it[0] for it in value.of}, self.body.terms
+        return self.has_no_turn(value.term, value.id) and all(self.has_no_turn(terms[it], it) for it in names & terms.keys())
 
     def stands_for(self, explored, state):
         """Whether a state that was explored says no more than another one."""
