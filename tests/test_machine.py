@@ -41,7 +41,7 @@ SHORT, SHORT_GROUPED = 8, 2
 # The quickest calls are quickly shown for every length. For the others the record does it.
 EVERY_LENGTH = ("v2", "encode"), ("v3", "encode"), ("v3", "check")
 # The functions of which no call executes some instructions, and how many are left. Each call for C has a jump to the
-# baseline build, which is not checked. In v3_encode an instruction begins a loop of one block, but the loop has several.
+# baseline build, which is not checked. In v3_encode an instruction begins a loop of one block, but the loop has more.
 # Two functions only return texts. Of grouped calls, security.md says what no source of at most 1,024 bytes executes.
 LEFT = {f"faster_hex_{it}": 1 for it in CALLS if it not in POLICIES}
 LEFT |= {"x86-64-v3_encode": 1, "faster_hex_status_text": 8, "faster_hex_version": 2, "faster_hex_build": 5}
@@ -141,8 +141,8 @@ def test_record():
     said = dict(it.groups() for it in (re.fullmatch(r"x86-64-(v\w+ \w+): (.*)", line) for line in lines) if it)
     assert [*said] == [f"{build} {call}" for build, call in PAIRS]
     for build, call in PAIRS:
-        words = "0 to 32 bytes in groups of each size, any separator; up to 1024 " if call in GROUPED else "every length, "
-        assert said[f"{build} {call}"].startswith(words)
+        words = "0 to 32 bytes in groups of each size, any separator; up to 1024 "
+        assert said[f"{build} {call}"].startswith(words if call in GROUPED else "every length, ")
     found = [re.fullmatch(r"(\S+): (\d+) of (\d+) instructions executed", it) for it in lines]
     left = {it[1]: int(it[3]) - int(it[2]) for it in found if it}
     assert {*left} == names_of_functions()

@@ -14,9 +14,10 @@ CALLS |= GROUPED
 # A source has at most so many bytes, with groups of each size.
 MOST = 32
 # Beyond them, numbers of decoded bytes and sizes of groups, by which other ways through the code are taken. Such a text
-# is decoded under the first policy only. The last one is only encoded: its groups have five blocks of 32 bytes, and more.
+# is decoded under the first policy only.
 LONGER = [(16, 8), (29, 8), (36, 10), (43, 12), (57, 16), (60, 17), (90, 24), (116, 33), (228, 65), (340, 97),
           (452, 129), (600, 257), (1024, 512), (59, 1), (59, 2), (95, 5), (95, 7), (64, 32), (128, 64), (256, 128)]
+# What is encoded also has groups of five blocks of 32 bytes, and more.
 ENCODED = [*LONGER, (330, 165)]
 EVERY = Value(z3.BitVec("every", 64))
 # A byte may stand between groups if it is ASCII and no hex digit.

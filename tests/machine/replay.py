@@ -1,5 +1,5 @@
 """A second check of loops. For each loop that was explored it takes a record: the state before the loop, the general
-state, which says what holds before turn k, and the states in which the loop was left and from which the exploration went
+state, which says what holds before turn k, and the states in which the loop was left, from which the exploration went
 on. It shows by an own solver that the state before the loop is the general state for k = 0, that each path through the
 loop's instructions from the general state comes back as the one for k + 1, and that each path that leaves the loop does
 so as a state of the record. It has the effect of instructions from the explorer, but neither how that one guesses, nor
@@ -148,8 +148,9 @@ class Replay:
 
     def is_free(self, value):
         """Whether a value does not depend on the turn, neither itself nor by the places of its bytes."""
-        names, terms = {it[0] for it in value.of}, self.body.terms
-        return self.has_no_turn(value.term, value.id) and all(self.has_no_turn(terms[it], it) for it in names & terms.keys())
+        terms = self.body.terms
+        names = {it[0] for it in value.of} & terms.keys()
+        return self.has_no_turn(value.term, value.id) and all(self.has_no_turn(terms[it], it) for it in names)
 
     def stands_for(self, explored, state):
         """Whether a state that was explored says no more than another one."""
