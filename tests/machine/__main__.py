@@ -24,6 +24,8 @@ from .statements import CALLS, shown
 from .values import forget
 
 TOP = Path(__file__).resolve().parents[2]
+# The build for which answers are kept.
+KEPT = []
 # The builds for AVX-512 have the calls that check and decode.
 WIDEST = [it for it in CALLS if it.startswith(("check", "decode")) and it not in GROUPED]
 # Each build with its level, which is that of the processors that run it, and the calls that it has.
@@ -69,6 +71,10 @@ def levels_of(build, call):
 def checked(made, build, call, most):
     """What is said of a call, whether it is shown, and the addresses that were executed."""
     executed = set()
+    # Calls of a build have much in common, so what Z3 has answered is kept for the next one, but not for grouped calls.
+    if KEPT != [build] or call in GROUPED:
+        forget()
+        KEPT[:] = [build]
     try:
         image = Image(made)
         for level in levels_of(build, call):
@@ -84,8 +90,6 @@ def checked(made, build, call, most):
         return f"x86-64-{build} {call}: {said}", True, executed
     except Refused as why:
         return f"x86-64-{build} {call}: REFUSED: {why}", False, set()
-    finally:
-        forget()
 
 
 def functions(made, executed):

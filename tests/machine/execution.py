@@ -212,7 +212,7 @@ class Machine:
             if zero and not asked.of:
                 it.gap = (zero[1], asked, step.name[1:]) if holds else \
                     (zero[1], apply(z3.Not, asked), opposite(step.name[1:]))
-            for head, loop in loops.items():
+            for head, loop in loops.items() if not self.is_trying else ():
                 loop.exits += [] if head <= it.at <= self.image.loops[head] else [it.copy()]
         self.left += [it for it, _ in outcomes[1:]]
         for it, _ in outcomes:
@@ -249,8 +249,9 @@ class Machine:
 
     def is_shown(self, state, *terms):
         """Whether on this path one of these terms holds for all bytes, addresses and lengths."""
-        terms = *self.known(state), *map(z3.Not, terms)
-        return is_proved(tuple([it.get_id() for it in terms]), lambda: terms)
+        key = [it.id for it in (*self.facts, *state.facts)] + [it.get_id() for it in terms]
+        refused = ids((state.refused, state.valid)) if state.refused and not self.is_fixed else None
+        return is_proved((*key, len(terms), refused), lambda: [*self.known(state), *map(z3.Not, terms)])
 
     def covers(self, state, spans, count):
         """Whether spans have all indices below a number."""
@@ -355,7 +356,7 @@ class Machine:
         source and the destination, and a number for the stack and the file."""
         if address.of:
             raise Refused("an address depends on the bytes")
-        key = "place", address.id
+        key = "place", address.id, self.image.base.id
         if key not in MADE:
             bases = *BASES[:3], self.image.base
             distances = [(base, z3.simplify(address.term - base.term)) for base in bases]

@@ -17,6 +17,8 @@ MOST = 32
 # is decoded under the first policy only.
 LONGER = [(16, 8), (29, 8), (36, 10), (43, 12), (57, 16), (60, 17), (90, 24), (116, 33), (228, 65), (340, 97),
           (452, 129), (600, 257), (1024, 512), (59, 1), (59, 2), (95, 5), (95, 7), (64, 32), (128, 64), (256, 128)]
+# What is encoded also has groups of five blocks of 32 bytes, and more.
+ENCODED = [*LONGER, (330, 165)]
 EVERY = Value(z3.BitVec("every", 64))
 # A byte may stand between groups if it is ASCII and no hex digit.
 IS_DIGIT = hexadecimal.is_digit(SEPARATOR.term, hexadecimal.EITHER_CASE)
@@ -92,7 +94,7 @@ def shown_grouped(image, build, call, most=None):
     is_encoding = call == "encode_grouped"
     pairs = [(length, every) for length in range((MOST if most is None else most) + 1)
              for every in [*range((length if is_encoding else length // 2) + 1), None]]
-    longer = [(count if is_encoding else text_length(count, every), every) for count, every in LONGER]
+    longer = ENCODED if is_encoding else [(text_length(count, every), every) for count, every in LONGER]
     longer = [it for it in longer if most is None or it[0] <= most]
     for at in image.calls(build, call):
         for length, every in longer:

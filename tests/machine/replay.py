@@ -1,26 +1,42 @@
-"""A second check of loops. For each loop that was explored it takes the general state, which says what holds before
-turn k, and shows by an own solver that the state before the loop is the general state for k = 0, that each path through the
+"""A second check of loops. For each loop that was explored it takes a record: the state before the loop, the general
+state, which says what holds before turn k, and the states in which the loop was left, from which the exploration went
+on. It shows by an own solver that the state before the loop is the general state for k = 0, that each path through the
 loop's instructions from the general state comes back as the one for k + 1, and that each path that leaves the loop does
-so as a state that was explored further. It has the effect of instructions from the explorer, but neither how that one
-guesses, nor how it forgets and joins, nor how it compares states."""
+so as a state of the record. It has the effect of instructions from the explorer, but neither how that one guesses, nor
+how it forgets and joins, nor how it compares states."""
 import z3
 
 from . import Refused
 from .execution import Machine
+from .values import unknown
 
 # The paths of a loop's body have fewer instructions in all.
 MOST_STEPS = 5000
+INDEX, NO_TURN = z3.BitVec("any index", 64), z3.BitVecVal(0, 64)
+
+
+# What was shown, by the numbers of terms. A number stays valid while its term is kept, so the terms are kept too.
+SHOWN = {}
 
 
 def holds(known, term):
-    """Whether a term follows from others."""
-    solver = z3.SolverFor("QF_BV")
-    solver.add(*known, z3.Not(term))
-    return solver.check() == z3.unsat
+    """Whether a term follows from others. A term that is one of them does."""
+    key = *[it.get_id() for it in known], term.get_id()
+    if key[-1] not in key[:-1] and key not in SHOWN:
+        solver, terms = z3.SolverFor("QF_BV"), [*known, z3.Not(term)]
+        solver.add(*terms)
+        SHOWN[key] = solver.check() == z3.unsat, known, term
+    return key not in SHOWN or SHOWN[key][0]
 
 
 def within(spans, index):
     return z3.Or(*[z3.And(z3.ULE(first, index), z3.ULT(index, end)) for first, end in spans])
+
+
+def are_within(known, spans, others):
+    """Whether each index of some spans is one of others."""
+    are_others = len(spans) <= len(others) and all(a.eq(b) for one, two in zip(spans, others) for a, b in zip(one, two))
+    return are_others or holds(known, z3.Implies(within(spans, INDEX), within(others, INDEX)))
 
 
 class Body(Machine):
@@ -37,6 +53,8 @@ class Body(Machine):
         """The states at the ends of all paths."""
         head, last = self.loop.state.at, self.image.loops[self.loop.state.at]
         state, self.left, steps = self.loop.state.copy(), [], 0
+        # The record is not to be changed by what is executed here.
+        state.loops = {}
         self.advances(state)
         self.left.append(state)
         while self.left:
@@ -51,9 +69,10 @@ class Replay:
     """The replay of a loop. To make it is to check it."""
 
     def __init__(self, explorer, loop):
-        self.body, self.loop, self.turn = Body(explorer, loop), loop, loop.turn
+        self.body, self.loop, self.turn, self.free = Body(explorer, loop), loop, loop.turn, {}
         try:
-            self.is_as(loop.before, z3.BitVecVal(0, 64))
+            self.is_fresh()
+            self.is_as(loop.before, NO_TURN)
             for state in self.body.paths():
                 if state.at == loop.state.at:
                     self.is_as(state, self.turn + 1)
@@ -62,8 +81,30 @@ class Replay:
         except Refused as why:
             raise Refused(f"the loop at {loop.state.at:#x}, replayed: {why}") from why
 
+    def is_fresh(self):
+        """Refuses a record in which the turn or what is unknown occurs before the loop, or in which the general state
+        says something that is not compared."""
+        before, general = self.loop.before, self.loop.state
+        values, others = general.values(), before.values()
+        names = set()
+        for place in self.loop.unknown:
+            value = unknown(f"{place} in {self.turn}", values[place].term.size() // 8)
+            names |= {*value.of}
+            if not values[place].is_same(value):
+                raise Refused(f"{place} is not unknown")
+        terms = [it.term for it in before.facts] + [it for spans in (before.valid, before.written, *before.refused)
+                                                    for span in spans for it in span]
+        if any(not self.is_free(it) or not names.isdisjoint(it.of) for it in others.values()) or \
+                not all(map(self.has_no_turn, terms)):
+            raise Refused("its unknowns are not new")
+        if general.masks or any(general.flags.values()):
+            raise Refused("flags are not compared")
+
     def at(self, term, turn):
         return z3.substitute(term, (self.turn, turn))
+
+    def moved(self, spans, turn):
+        return [(self.at(first, turn), self.at(end, turn)) for first, end in spans]
 
     def known(self, state):
         """What a state says, as terms: of its facts, and of a byte that each failed test has found to be invalid."""
@@ -80,38 +121,51 @@ class Replay:
             if place in self.loop.unknown:
                 continue
             other = values.get(place)
-            is_public = other and not value.of and not other.of
-            if not other or not (self.is_free(value) and value.is_same(other)) and \
-                    not (is_public and holds(known, self.at(value.term, turn) == other.term)):
+            if not other or not (value.is_same(other) and self.is_free(value)) and \
+                    not self.is_next(known, value, other, turn):
                 raise Refused(f"{place} is another one")
         if not all(holds(known, self.at(it.term, turn)) for it in general.facts):
             raise Refused("a fact does not hold")
         for spans, others in (general.valid, state.valid), (general.written, state.written):
-            moved = [(self.at(first, turn), self.at(end, turn)) for first, end in spans]
-            index = z3.BitVec("any index", 64)
-            if not holds(known, z3.Implies(within(moved, index), within(others, index))):
+            if not are_within(known, self.moved(spans, turn), others):
                 raise Refused("it leaves bytes out")
         if state.written and not general.written or len(state.refused) != len(general.refused):
             raise Refused("it writes or refuses something else")
+        if not all(are_within(known, it, self.moved(spans, turn)) for it, spans in zip(state.refused, general.refused)):
+            raise Refused("another byte is invalid")
+
+    def is_next(self, known, value, other, turn):
+        """Whether a public value, for a turn, is another one."""
+        is_public = not value.of and not other.of and value.term.size() == other.term.size()
+        return is_public and holds(known, self.at(value.term, turn) == other.term)
+
+    def has_no_turn(self, term, number=None):
+        """Whether a term does not depend on the turn. The term is kept, since its number stays valid only as long."""
+        number = number or term.get_id()
+        if number not in self.free:
+            self.free[number] = z3.substitute(term, (self.turn, self.turn + 1)).eq(term), term
+        return self.free[number][0]
 
     def is_free(self, value):
         """Whether a value does not depend on the turn, neither itself nor by the places of its bytes."""
-        terms = [self.body.terms[it[0]] for it in value.of if it[0] in self.body.terms]
-        return all(z3.substitute(it, (self.turn, self.turn + 1)).eq(it) for it in (value.term, *terms))
+        terms = self.body.terms
+        names = {it[0] for it in value.of} & terms.keys()
+        return self.has_no_turn(value.term, value.id) and all(self.has_no_turn(terms[it], it) for it in names)
 
     def stands_for(self, explored, state):
         """Whether a state that was explored says no more than another one."""
         known, values = self.known(state), state.values()
-        is_known = all(place in values and (value.is_same(values[place]) or self.is_joined(value, place, explored))
-                       for place, value in explored.values().items())
-        index = z3.BitVec("any index", 64)
-        return is_known and all(holds(known, it.term) for it in explored.facts) and \
-            holds(known, z3.Implies(within(explored.valid, index), within(state.valid, index))) and \
-            bool(explored.written) == bool(state.written) and \
-            holds(known, z3.Implies(within(explored.written, index), within(state.written, index))) and \
-            len(explored.refused) == len(state.refused)
+        is_known = all(place in values and value.is_same(values[place]) for place, value in explored.values().items())
+        return is_known and self.has_flags_of(explored, state) and all(holds(known, it.term) for it in explored.facts) \
+            and are_within(known, explored.valid, state.valid) and bool(explored.written) == bool(state.written) \
+            and are_within(known, explored.written, state.written) and len(explored.refused) == len(state.refused) \
+            and all(are_within(known, it, spans) for it, spans in zip(state.refused, explored.refused))
 
     @staticmethod
-    def is_joined(value, place, explored):
-        """Whether a value is the unknown of a join, which may be anything."""
-        return any(it[0:len("joined")] == "joined" or " joined at " in str(it) for it in value.of)
+    def has_flags_of(explored, state):
+        """Whether the flags and masks that a state has are those of another one."""
+        pairs = [(flag, state.flags[name]) for name, flag in explored.flags.items() if flag]
+        flags = all(other and flag[0] is other[0] and len(flag) == len(other) and
+                    all(a.is_same(b) for a, b in zip(flag[1:], other[1:])) for flag, other in pairs)
+        return flags and all(name in state.masks and all(a.is_same(b) for a, b in zip(bits, state.masks[name]))
+                             for name, bits in explored.masks.items())

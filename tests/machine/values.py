@@ -16,6 +16,8 @@ z3.z3core.Z3_set_ast_print_mode(z3.main_ctx().ref(), z3.Z3_PRINT_LOW_LEVEL)
 # The terms that were built, and the answers of Z3. They are keyed by Z3's numbers of terms. A number stays valid while
 # its term is kept, so the operands are kept too.
 MADE, ANSWERS = {}, {}
+# The last models that Z3 found, and how many are kept.
+MODELS, MOST_MODELS = [], 16
 
 
 class Value:
@@ -112,16 +114,36 @@ def plus(value, number):
     return apply(added, value, constant(number, value.term.size() // 8))
 
 
+def is_refuted(terms):
+    """Whether terms hold together in a model that answered another question. The condition that is asked for comes last
+    and is tried first."""
+    for at, it in enumerate(MODELS):
+        if all(z3.is_true(it.eval(term, True)) for term in reversed(terms)):
+            MODELS.insert(0, MODELS.pop(at))
+            return True
+    return False
+
+
 def is_proved(key, conditions):
     """Whether the conditions that a function returns can never hold together. The answer is kept by the key. Each
     question has a new solver, which is faster than to use one again."""
     if key not in ANSWERS:
-        solver, terms = z3.SolverFor("QF_BV"), conditions()
-        solver.add(*terms)
-        ANSWERS[key] = solver.check(), terms
-    return ANSWERS[key][0] == z3.unsat
+        terms = conditions()
+        ANSWERS[key] = not is_refuted(terms) and not has_model(terms), terms
+    return ANSWERS[key][0]
+
+
+def has_model(terms):
+    """Whether terms can hold together, or Z3 does not know it. The model is kept."""
+    solver = z3.SolverFor("QF_BV")
+    solver.add(*terms)
+    said = solver.check()
+    if said == z3.sat:
+        MODELS.insert(0, solver.model())
+        del MODELS[MOST_MODELS:]
+    return said != z3.unsat
 
 
 def forget():
     """Frees all terms that were kept. No value may be used after this."""
-    MADE.clear(), ANSWERS.clear()
+    MADE.clear(), ANSWERS.clear(), MODELS.clear()
