@@ -5873,7 +5873,7 @@
 	hex_page	x8,.LCPI15_0
 	hex_value	q0,x8,.LCPI15_0
 	str	q0,[x0]
-	b	91f
+	b	97f
 2:
 	ldrb	w10,[x1,#16]
 	lsr	x8,x5,#1
@@ -5887,7 +5887,7 @@
 	stp	x20,xzr,[x0,#16]
 	dup	v0.2d,x8
 	str	q0,[x0]
-	b	92f
+	b	98f
 4:
 	mov	x9,x4
 	ldrb	w4,[x1]
@@ -5896,16 +5896,16 @@
 	ldrb	w21,[x1,#17]
 	cbz	x5,19f
 	subs	w23,w21,#48
-	b.lo	94f
+	b.lo	100f
 	ldrb	w8,[x9]
 	cmp	w21,#57
 	b.ls	23f
 	cmp	w21,#65
-	b.lo	94f
+	b.lo	100f
 	cmp	w21,#71
 	b.hs	20f
 	cmp	w4,#1
-	b.eq	94f
+	b.eq	100f
 	sub	w23,w21,#55
 	b	23f
 12:
@@ -5915,51 +5915,51 @@
 	mov	w22,wzr
 	mov	w21,wzr
 	cbnz	x10,42f
-	b	90f
+	b	96f
 14:
 	ldrb	w21,[x9,x10]
 	cmp	w21,#48
-	b.lo	93f
+	b.lo	99f
 	cmp	w21,#58
 	b.lo	41f
 	cmp	w21,#65
-	b.lo	93f
+	b.lo	99f
 	cmp	w21,#71
 	b.hs	39f
 	cmp	w4,#1
 	b.ne	41f
-	b	93f
+	b	99f
 19:
 	mov	w22,#1
-	b	90f
+	b	96f
 20:
 	sub	w10,w21,#103
 	and	w10,w10,#0xff
 	cmp	w10,#250
-	b.lo	94f
+	b.lo	100f
 	cmp	w4,#2
-	b.eq	94f
+	b.eq	100f
 	sub	w23,w21,#87
 23:
 	subs	w24,w8,#48
-	b.lo	93f
+	b.lo	99f
 	cmp	w8,#57
 	b.ls	32f
 	cmp	w8,#65
-	b.lo	93f
+	b.lo	99f
 	cmp	w8,#71
 	b.hs	29f
 	cmp	w4,#1
-	b.eq	93f
+	b.eq	99f
 	sub	w24,w8,#55
 	b	32f
 29:
 	cmp	w4,#2
-	b.eq	93f
+	b.eq	99f
 	sub	w10,w8,#103
 	and	w10,w10,#0xff
 	cmp	w10,#250
-	b.lo	93f
+	b.lo	99f
 	sub	w24,w8,#87
 32:
 	sub	x8,x5,#1
@@ -5969,37 +5969,37 @@
 	b.ne	34f
 	mov	w22,wzr
 	mov	w21,wzr
-	cbnz	x11,63f
-	b	89f
+	cbnz	x11,66f
+	b	95f
 34:
 	ldrb	w21,[x10,x11]
 	cmp	w21,#48
-	b.lo	93f
+	b.lo	99f
 	cmp	w21,#58
-	b.lo	62f
+	b.lo	65f
 	cmp	w21,#65
-	b.lo	93f
+	b.lo	99f
 	cmp	w21,#71
-	b.hs	60f
+	b.hs	63f
 	cmp	w4,#1
-	b.ne	62f
-	b	93f
+	b.ne	65f
+	b	99f
 39:
 	cmp	w4,#2
-	b.eq	93f
+	b.eq	99f
 	sub	w11,w21,#103
 	and	w11,w11,#0xff
 	cmp	w11,#250
-	b.lo	93f
+	b.lo	99f
 41:
 	mov	w22,#1
-	cbz	x10,90f
+	cbz	x10,96f
 42:
 	cmp	x5,#15
 	b.hi	46f
 	cmp	x5,#3
 	add	x10,x9,x10
-	b.hi	49f
+	b.hi	50f
 	ldr	h0,[x9]
 	sub	x9,x10,#2
 	movi	v2.4h,#55
@@ -6039,7 +6039,7 @@
 	orr	w9,w9,w10
 	orr	w9,w9,w9,lsr #16
 	tst	w9,#0xff
-	b.ne	93f
+	b.ne	99f
 	uzp1	v0.8b,v0.8b,v0.8b
 	mov	w9,#4097
 	add	x8,x6,x8
@@ -6052,62 +6052,58 @@
 	mov	s1,v0.s[1]
 	str	b0,[x6]
 	stur	b1,[x8,#-1]
-	b	90f
+	b	96f
 46:
 	cmp	x10,#32
-	b.hi	52f
+	b.hi	53f
 	movi	v0.16b,#55
-	add	x10,x9,x10
-	ldr	q1,[x9]
-	ldur	q2,[x10,#-16]
+	b.ne	56f
+	ldp	q1,q2,[x9]
 	movi	v4.16b,#143
-	hex_page	x9,.Lstatic.47
-	hex_address	x9,x9,.Lstatic.47
-	ldr	q6,[x9,x4,lsl #4]
-	hex_page	x9,.Lstatic.38
-	hex_address	x9,x9,.Lstatic.38
+	hex_page	x8,.Lstatic.47
+	hex_address	x8,x8,.Lstatic.47
+	ldr	q6,[x8,x4,lsl #4]
+	hex_page	x8,.Lstatic.38
+	hex_address	x8,x8,.Lstatic.38
 	uqsub	v3.16b,v2.16b,v0.16b
 	uqsub	v0.16b,v1.16b,v0.16b
-	add	x9,x9,x4
+	add	x8,x8,x4
 	and	v5.16b,v0.16b,v4.16b
 	and	v4.16b,v3.16b,v4.16b
 	tbl	v5.16b,{ v6.16b },v5.16b
 	tbl	v4.16b,{ v6.16b },v4.16b
-	ld1r	{ v6.16b },[x9]
-	eor	v1.16b,v6.16b,v1.16b
+	ld1r	{ v6.16b },[x8]
 	eor	v2.16b,v6.16b,v2.16b
-	uqsub	v0.16b,v5.16b,v0.16b
 	uqsub	v3.16b,v4.16b,v3.16b
-	eor	v0.16b,v0.16b,v1.16b
+	uqsub	v0.16b,v5.16b,v0.16b
+	eor	v4.16b,v6.16b,v1.16b
 	eor	v1.16b,v3.16b,v2.16b
+	eor	v0.16b,v0.16b,v4.16b
 	movi	v2.16b,#240
 	orr	v3.16b,v0.16b,v1.16b
 	and	v2.16b,v3.16b,v2.16b
 	ext	v3.16b,v2.16b,v2.16b,#8
 	orr	v2.8b,v2.8b,v3.8b
-	fmov	x9,d2
-	orr	x9,x9,x9,lsr #32
-	lsr	x10,x9,#16
-	orr	w9,w9,w10
-	orr	w9,w9,w9,lsr #8
-	tst	w9,#0xff
-	b.ne	93f
-	mov	w9,#4097
-	add	x8,x6,x8
-	dup	v2.8h,w9
-	mul	v0.8h,v0.8h,v2.8h
+	fmov	x8,d2
+	orr	x8,x8,x8,lsr #32
+	lsr	x9,x8,#16
+	orr	w8,w8,w9
+	orr	w8,w8,w8,lsr #8
+	tst	w8,#0xff
+	b.ne	99f
+	mov	w8,#4097
+	dup	v2.8h,w8
 	mul	v1.8h,v1.8h,v2.8h
-	shrn	v0.8b,v0.8h,#8
-	shrn	v1.8b,v1.8h,#8
-	str	d0,[x6]
-	stur	d1,[x8,#-8]
-	b	90f
-49:
+	mul	v0.8h,v0.8h,v2.8h
+	uzp2	v0.16b,v0.16b,v1.16b
+	str	q0,[x6]
+	b	96f
+50:
 	hex_page	x11,.Lstatic.47
 	hex_address	x11,x11,.Lstatic.47
 	cmp	x5,#7
 	ldr	q0,[x11,x4,lsl #4]
-	b.hi	55f
+	b.hi	58f
 	ldr	s1,[x9]
 	sub	x9,x10,#4
 	movi	v2.8b,#55
@@ -6131,7 +6127,7 @@
 	orr	w9,w9,w10
 	orr	w9,w9,w9,lsr #8
 	tst	w9,#0xff
-	b.ne	93f
+	b.ne	99f
 	mov	w9,#4097
 	add	x8,x6,x8
 	dup	v1.4h,w9
@@ -6145,10 +6141,10 @@
 	stur	b2,[x6,#1]
 	stur	b1,[x8,#-2]
 	stur	b3,[x8,#-1]
-	b	90f
-52:
+	b	96f
+53:
 	cmp	x10,#64
-	b.hi	57f
+	b.hi	60f
 	movi	v0.16b,#55
 	ldp	q1,q2,[x9]
 	add	x9,x9,x10
@@ -6198,7 +6194,7 @@
 	orr	w9,w9,w10
 	orr	w9,w9,w9,lsr #8
 	tst	w9,#0xff
-	b.ne	93f
+	b.ne	99f
 	mov	w9,#4097
 	add	x8,x6,x8
 	dup	v4.8h,w9
@@ -6210,8 +6206,54 @@
 	uzp2	v1.16b,v1.16b,v2.16b
 	str	q0,[x6]
 	stur	q1,[x8,#-16]
-	b	90f
-55:
+	b	96f
+56:
+	add	x10,x9,x10
+	ldr	q1,[x9]
+	movi	v4.16b,#143
+	ldur	q2,[x10,#-16]
+	hex_page	x9,.Lstatic.47
+	hex_address	x9,x9,.Lstatic.47
+	ldr	q6,[x9,x4,lsl #4]
+	hex_page	x9,.Lstatic.38
+	hex_address	x9,x9,.Lstatic.38
+	uqsub	v3.16b,v2.16b,v0.16b
+	uqsub	v0.16b,v1.16b,v0.16b
+	add	x9,x9,x4
+	and	v5.16b,v0.16b,v4.16b
+	and	v4.16b,v3.16b,v4.16b
+	tbl	v5.16b,{ v6.16b },v5.16b
+	tbl	v4.16b,{ v6.16b },v4.16b
+	ld1r	{ v6.16b },[x9]
+	eor	v1.16b,v6.16b,v1.16b
+	eor	v2.16b,v6.16b,v2.16b
+	uqsub	v0.16b,v5.16b,v0.16b
+	uqsub	v3.16b,v4.16b,v3.16b
+	eor	v0.16b,v0.16b,v1.16b
+	eor	v1.16b,v3.16b,v2.16b
+	movi	v2.16b,#240
+	orr	v3.16b,v0.16b,v1.16b
+	and	v2.16b,v3.16b,v2.16b
+	ext	v3.16b,v2.16b,v2.16b,#8
+	orr	v2.8b,v2.8b,v3.8b
+	fmov	x9,d2
+	orr	x9,x9,x9,lsr #32
+	lsr	x10,x9,#16
+	orr	w9,w9,w10
+	orr	w9,w9,w9,lsr #8
+	tst	w9,#0xff
+	b.ne	99f
+	mov	w9,#4097
+	add	x8,x6,x8
+	dup	v2.8h,w9
+	mul	v0.8h,v0.8h,v2.8h
+	mul	v1.8h,v1.8h,v2.8h
+	shrn	v0.8b,v0.8h,#8
+	shrn	v1.8b,v1.8h,#8
+	str	d0,[x6]
+	stur	d1,[x8,#-8]
+	b	96f
+58:
 	ldr	d1,[x9]
 	ldur	d2,[x10,#-8]
 	movi	v3.16b,#143
@@ -6237,7 +6279,7 @@
 	orr	w9,w9,w10
 	orr	w9,w9,w9,lsr #8
 	tst	w9,#0xff
-	b.ne	93f
+	b.ne	99f
 	mov	w9,#4097
 	add	x8,x6,x8
 	dup	v1.8h,w9
@@ -6248,10 +6290,10 @@
 	str	s0,[x6]
 	xtn	v1.8b,v1.8h
 	stur	s1,[x8,#-4]
-	b	90f
-57:
+	b	96f
+60:
 	cmp	x10,#128
-	b.hi	81f
+	b.hi	87f
 	movi	v4.16b,#55
 	ldp	q0,q2,[x9]
 	ldp	q1,q3,[x9,#32]
@@ -6331,7 +6373,7 @@
 	orr	w9,w9,w10
 	orr	w9,w9,w9,lsr #8
 	tst	w9,#0xff
-	b.ne	93f
+	b.ne	99f
 	mov	w9,#4097
 	add	x8,x6,x8
 	dup	v16.8h,w9
@@ -6349,25 +6391,25 @@
 	uzp2	v0.16b,v1.16b,v0.16b
 	stp	q5,q4,[x6]
 	stp	q0,q2,[x8,#-32]
-	b	90f
-60:
+	b	96f
+63:
 	cmp	w4,#2
-	b.eq	93f
+	b.eq	99f
 	sub	w12,w21,#103
 	and	w12,w12,#0xff
 	cmp	w12,#250
-	b.lo	93f
-62:
+	b.lo	99f
+65:
 	mov	w22,#1
-	cbz	x11,89f
-63:
+	cbz	x11,95f
+66:
 	lsr	x8,x8,#1
 	cmp	x5,#16
 	add	x12,x6,#1
-	b.hi	67f
+	b.hi	70f
 	cmp	x5,#4
 	add	x9,x10,x11
-	b.hi	70f
+	b.hi	74f
 	ldr	h0,[x10]
 	sub	x9,x9,#2
 	movi	v2.4h,#55
@@ -6407,7 +6449,7 @@
 	orr	w9,w9,w10
 	orr	w9,w9,w9,lsr #16
 	tst	w9,#0xff
-	b.ne	93f
+	b.ne	99f
 	uzp1	v0.8b,v0.8b,v0.8b
 	mov	w9,#4097
 	add	x8,x12,x8
@@ -6420,62 +6462,58 @@
 	mov	s1,v0.s[1]
 	str	b0,[x12]
 	stur	b1,[x8,#-1]
-	b	89f
-67:
+	b	95f
+70:
 	cmp	x11,#32
-	b.hi	73f
+	b.hi	77f
 	movi	v0.16b,#55
-	add	x9,x10,x11
-	ldr	q1,[x10]
-	ldur	q2,[x9,#-16]
+	b.ne	80f
+	ldp	q1,q2,[x10]
 	movi	v4.16b,#143
-	hex_page	x9,.Lstatic.47
-	hex_address	x9,x9,.Lstatic.47
-	ldr	q6,[x9,x4,lsl #4]
-	hex_page	x9,.Lstatic.38
-	hex_address	x9,x9,.Lstatic.38
+	hex_page	x8,.Lstatic.47
+	hex_address	x8,x8,.Lstatic.47
+	ldr	q6,[x8,x4,lsl #4]
+	hex_page	x8,.Lstatic.38
+	hex_address	x8,x8,.Lstatic.38
 	uqsub	v3.16b,v2.16b,v0.16b
 	uqsub	v0.16b,v1.16b,v0.16b
-	add	x9,x9,x4
+	add	x8,x8,x4
 	and	v5.16b,v0.16b,v4.16b
 	and	v4.16b,v3.16b,v4.16b
 	tbl	v5.16b,{ v6.16b },v5.16b
 	tbl	v4.16b,{ v6.16b },v4.16b
-	ld1r	{ v6.16b },[x9]
-	eor	v1.16b,v6.16b,v1.16b
+	ld1r	{ v6.16b },[x8]
 	eor	v2.16b,v6.16b,v2.16b
-	uqsub	v0.16b,v5.16b,v0.16b
 	uqsub	v3.16b,v4.16b,v3.16b
-	eor	v0.16b,v0.16b,v1.16b
+	uqsub	v0.16b,v5.16b,v0.16b
+	eor	v4.16b,v6.16b,v1.16b
 	eor	v1.16b,v3.16b,v2.16b
+	eor	v0.16b,v0.16b,v4.16b
 	movi	v2.16b,#240
 	orr	v3.16b,v0.16b,v1.16b
 	and	v2.16b,v3.16b,v2.16b
 	ext	v3.16b,v2.16b,v2.16b,#8
 	orr	v2.8b,v2.8b,v3.8b
-	fmov	x9,d2
-	orr	x9,x9,x9,lsr #32
-	lsr	x10,x9,#16
-	orr	w9,w9,w10
-	orr	w9,w9,w9,lsr #8
-	tst	w9,#0xff
-	b.ne	93f
-	mov	w9,#4097
-	add	x8,x12,x8
-	dup	v2.8h,w9
-	mul	v0.8h,v0.8h,v2.8h
+	fmov	x8,d2
+	orr	x8,x8,x8,lsr #32
+	lsr	x9,x8,#16
+	orr	w8,w8,w9
+	orr	w8,w8,w8,lsr #8
+	tst	w8,#0xff
+	b.ne	99f
+	mov	w8,#4097
+	dup	v2.8h,w8
 	mul	v1.8h,v1.8h,v2.8h
-	shrn	v0.8b,v0.8h,#8
-	shrn	v1.8b,v1.8h,#8
-	str	d0,[x12]
-	stur	d1,[x8,#-8]
-	b	89f
-70:
+	mul	v0.8h,v0.8h,v2.8h
+	uzp2	v0.16b,v0.16b,v1.16b
+	str	q0,[x12]
+	b	95f
+74:
 	hex_page	x11,.Lstatic.47
 	hex_address	x11,x11,.Lstatic.47
 	cmp	x5,#8
 	ldr	q0,[x11,x4,lsl #4]
-	b.hi	76f
+	b.hi	82f
 	ldr	s1,[x10]
 	sub	x9,x9,#4
 	movi	v2.8b,#55
@@ -6499,7 +6537,7 @@
 	orr	w9,w9,w10
 	orr	w9,w9,w9,lsr #8
 	tst	w9,#0xff
-	b.ne	93f
+	b.ne	99f
 	mov	w9,#4097
 	add	x8,x12,x8
 	dup	v1.4h,w9
@@ -6513,10 +6551,10 @@
 	stur	b2,[x12,#1]
 	stur	b1,[x8,#-2]
 	stur	b3,[x8,#-1]
-	b	89f
-73:
+	b	95f
+77:
 	cmp	x11,#64
-	b.hi	78f
+	b.hi	84f
 	movi	v0.16b,#55
 	add	x9,x10,x11
 	movi	v5.16b,#143
@@ -6566,7 +6604,7 @@
 	orr	w9,w9,w10
 	orr	w9,w9,w9,lsr #8
 	tst	w9,#0xff
-	b.ne	93f
+	b.ne	99f
 	mov	w9,#4097
 	add	x8,x12,x8
 	dup	v4.8h,w9
@@ -6578,8 +6616,54 @@
 	uzp2	v1.16b,v1.16b,v2.16b
 	str	q0,[x12]
 	stur	q1,[x8,#-16]
-	b	89f
-76:
+	b	95f
+80:
+	add	x9,x10,x11
+	ldr	q1,[x10]
+	movi	v4.16b,#143
+	ldur	q2,[x9,#-16]
+	hex_page	x9,.Lstatic.47
+	hex_address	x9,x9,.Lstatic.47
+	ldr	q6,[x9,x4,lsl #4]
+	hex_page	x9,.Lstatic.38
+	hex_address	x9,x9,.Lstatic.38
+	uqsub	v3.16b,v2.16b,v0.16b
+	uqsub	v0.16b,v1.16b,v0.16b
+	add	x9,x9,x4
+	and	v5.16b,v0.16b,v4.16b
+	and	v4.16b,v3.16b,v4.16b
+	tbl	v5.16b,{ v6.16b },v5.16b
+	tbl	v4.16b,{ v6.16b },v4.16b
+	ld1r	{ v6.16b },[x9]
+	eor	v1.16b,v6.16b,v1.16b
+	eor	v2.16b,v6.16b,v2.16b
+	uqsub	v0.16b,v5.16b,v0.16b
+	uqsub	v3.16b,v4.16b,v3.16b
+	eor	v0.16b,v0.16b,v1.16b
+	eor	v1.16b,v3.16b,v2.16b
+	movi	v2.16b,#240
+	orr	v3.16b,v0.16b,v1.16b
+	and	v2.16b,v3.16b,v2.16b
+	ext	v3.16b,v2.16b,v2.16b,#8
+	orr	v2.8b,v2.8b,v3.8b
+	fmov	x9,d2
+	orr	x9,x9,x9,lsr #32
+	lsr	x10,x9,#16
+	orr	w9,w9,w10
+	orr	w9,w9,w9,lsr #8
+	tst	w9,#0xff
+	b.ne	99f
+	mov	w9,#4097
+	add	x8,x12,x8
+	dup	v2.8h,w9
+	mul	v0.8h,v0.8h,v2.8h
+	mul	v1.8h,v1.8h,v2.8h
+	shrn	v0.8b,v0.8h,#8
+	shrn	v1.8b,v1.8h,#8
+	str	d0,[x12]
+	stur	d1,[x8,#-8]
+	b	95f
+82:
 	ldr	d1,[x10]
 	ldur	d2,[x9,#-8]
 	movi	v3.16b,#143
@@ -6605,7 +6689,7 @@
 	orr	w9,w9,w10
 	orr	w9,w9,w9,lsr #8
 	tst	w9,#0xff
-	b.ne	93f
+	b.ne	99f
 	mov	w9,#4097
 	add	x8,x12,x8
 	dup	v1.8h,w9
@@ -6616,10 +6700,10 @@
 	str	s0,[x12]
 	xtn	v1.8b,v1.8h
 	stur	s1,[x8,#-4]
-	b	89f
-78:
+	b	95f
+84:
 	cmp	x11,#128
-	b.hi	84f
+	b.hi	90f
 	movi	v4.16b,#55
 	add	x9,x10,x11
 	movi	v5.16b,#143
@@ -6699,7 +6783,7 @@
 	orr	w9,w9,w10
 	orr	w9,w9,w9,lsr #8
 	tst	w9,#0xff
-	b.ne	93f
+	b.ne	99f
 	mov	w9,#4097
 	add	x8,x12,x8
 	dup	v16.8h,w9
@@ -6717,10 +6801,10 @@
 	uzp2	v0.16b,v1.16b,v0.16b
 	stp	q5,q4,[x12]
 	stp	q0,q2,[x8,#-32]
-	b	89f
-81:
+	b	95f
+87:
 	cmp	x10,#192
-	b.hi	87f
+	b.hi	93f
 	movi	v1.16b,#55
 	ldp	q19,q4,[x9,#32]
 	ldp	q17,q0,[x9]
@@ -6835,7 +6919,7 @@
 	orr	w9,w9,w10
 	orr	w9,w9,w9,lsr #8
 	tst	w9,#0xff
-	b.ne	93f
+	b.ne	99f
 	mov	w9,#4097
 	add	x8,x6,x8
 	dup	v4.8h,w9
@@ -6860,10 +6944,10 @@
 	uzp2	v1.16b,v4.16b,v2.16b
 	stp	q5,q3,[x6,#32]
 	stp	q1,q6,[x8,#-32]
-	b	90f
-84:
+	b	96f
+90:
 	cmp	x11,#192
-	b.hi	88f
+	b.hi	94f
 	movi	v1.16b,#55
 	ldur	q18,[x9,#33]
 	ldur	q0,[x9,#17]
@@ -6982,7 +7066,7 @@
 	orr	w9,w9,w10
 	orr	w9,w9,w9,lsr #8
 	tst	w9,#0xff
-	b.ne	93f
+	b.ne	99f
 	mov	w9,#4097
 	add	x8,x12,x8
 	dup	v4.8h,w9
@@ -7009,8 +7093,8 @@
 	stur	q5,[x6,#33]
 	stur	q3,[x6,#49]
 	stp	q1,q6,[x8,#-32]
-	b	89f
-87:
+	b	95f
+93:
 	mov	x23,x0
 	mov	x0,x9
 	mov	x24,x1
@@ -7025,9 +7109,9 @@
 	mov	x1,x24
 	mov	w8,w0
 	mov	x0,x23
-	tbnz	w8,#0,90f
-	b	93f
-88:
+	tbnz	w8,#0,96f
+	b	99f
+94:
 	str	x2,[sp,#32]
 	add	x2,x6,#1
 	mov	x26,x0
@@ -7044,18 +7128,18 @@
 	mov	x1,x27
 	mov	w8,w0
 	mov	x0,x26
-	cbz	w8,93f
-89:
+	cbz	w8,99f
+95:
 	add	w8,w24,w23,lsl #4
 	strb	w8,[x6]
-90:
+96:
 	str	x19,[x1,#8]
 	strb	w22,[x1,#16]
 	strb	w21,[x1,#17]
 	stp	xzr,x20,[x0]
-91:
+97:
 	stp	xzr,xzr,[x0,#16]
-92:
+98:
 	ldp	x20,x19,[sp,#224]
 	ldp	x22,x21,[sp,#208]
 	ldp	x24,x23,[sp,#192]
@@ -7068,7 +7152,7 @@
 	ldp	d15,d14,[sp,#80]
 	add	sp,sp,#240
 	ret
-93:
+99:
 	mov	x19,x0
 	add	x0,sp,#56
 	bl	io_stream_decoder_Decoder_error_in
@@ -7077,8 +7161,8 @@
 	mov	w9,#1
 	stp	x9,x8,[x19]
 	str	q0,[x19,#16]
-	b	92b
-94:
+	b	98b
+100:
 	brk	#0x1
 	hex_end	io_stream_decoder_Decoder_feed_digits
 	hex_function	core_plain_decode_many_outlined,.text
