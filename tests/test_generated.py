@@ -8,7 +8,7 @@ from commands import CC, OF_PROOFS, TOP, VERSION, needs, ran, runs
 
 GENERATED = TOP / "generated"
 # A pattern that must be in each build's assembly, and one that must not.
-SPEAKS = {"x86-64": ("%rax", "pshufb|%xmm|%ymm|%zmm"), "x86-64-v2": ("\tpshufb", "%ymm|%zmm")}
+SPEAKS = {"x86-64": ("%rax", "pshufb|%ymm|%zmm"), "x86-64-v2": ("\tpshufb", "%ymm|%zmm")}
 SPEAKS |= {"x86-64-v3": ("\tvpshufb\t.*%ymm", "%zmm"), "x86-64-v4": ("\tvptestm.*%zmm", "_encode|_grouped|\tvpermb\t")}
 SPEAKS |= {"x86-64-vbmi": ("\tvpermb\t", "_encode|_grouped")}
 # The builds for AVX-512, and the calls that they have.
@@ -25,6 +25,15 @@ TESTS = re.compile("(cmp|test|add|sub|inc|dec|and)[bwlq]?$")
 def test_processor(build):
     text, (some, none) = (GENERATED / f"{build}.s").read_text(), SPEAKS[build]
     assert re.search(some, text) and not re.search(none, text)
+
+
+@pytest.mark.quick
+def test_vectors_of_the_baseline_build():
+    """Its plan is `scalar`, which has no vectors. Only the call for digits with white space uses those of SSE2, to
+    search the end of a run and to move an answer."""
+    text = (GENERATED / "x86-64.s").read_text()
+    found = re.findall(r"^\thex_(?:function|export)\t\w+?_x86_64_(\w+)(.*?)^\thex_end", text, re.M | re.S)
+    assert {name for name, body in found if "%xmm" in body} == {"codec_spaced_run_len", "decode_spaced"}
 
 
 @pytest.mark.quick

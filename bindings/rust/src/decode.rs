@@ -322,7 +322,7 @@ mod tests {
     #[test]
     fn white_space_is_skipped_at_each_place() {
         for len in 0..100 {
-            let digits: Vec<u8> = (0..len).map(|at| b"0123456789aBcDeF"[at % 16]).collect();
+            let digits: std::vec::Vec<u8> = (0..len).map(|at| b"0123456789aBcDeF"[at % 16]).collect();
             let mut bytes = [0xa5; 50];
             let answer = hex_decode(&digits, &mut bytes).map(|bytes| bytes.to_vec());
             for (at, space) in (0..=len).flat_map(|at| b" \t\n\x0c\r".map(|space| (at, space))) {

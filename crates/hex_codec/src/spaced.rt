@@ -59,8 +59,8 @@ pub fn hex_decode_spaced(src: &[u8], dst: &mut [u8], case: CheckCase) -> Result<
 /// ```rust
 /// let mut buffer = [0; 2];
 /// let [scalar, ..] = backends();
-/// assert_eq!(rt; decode_by(scalar, b"00 ab\n", &mut buffer, CheckCase::None)?, 2);
-/// assert_eq!(rt; buffer, [0, 0xab]);
+/// let written = decode_by(scalar, b"00 ab\n", &mut buffer, CheckCase::None)?;
+/// assert_eq!(rt; (written, buffer), (2, [0, 0xab]));
 /// ```
 pub fn decode_by(plan: Backend, src: &[u8], dst: &mut [u8], case: CheckCase) -> Result<usize, Error>
     ensures answer { DecodesSpaced case src.now dst.old dst.new result }
