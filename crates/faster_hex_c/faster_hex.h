@@ -29,9 +29,10 @@
  *   does not export the calls.
  * - gcc and clang warn if a result that says whether a call failed is not used.
  *
- * What is known: the source code is proved to return and write what this header says, for lengths below 2^63. The
- * assembly compiled from it is tested, and on Linux from x86-64-v2 on it was also checked against a definition of hex.
- * Where there is no assembly, the library is plain C, which is not proved. For keys, see faster_hex(3).
+ * What is known: the source is proved to return and write what this header says, for lengths below 2^63. The assembly
+ * compiled from it is tested. On Linux from x86-64-v2 on, all calls but faster_hex_decode_spaced were also checked
+ * against a definition of hex. Where there is no assembly, plain C is used, which is not proved. For keys, see
+ * faster_hex(3).
  */
 #ifndef FASTER_HEX_H
 #define FASTER_HEX_H
@@ -139,6 +140,16 @@ struct faster_hex_answer faster_hex_decode(const void *src, size_t len,
 FASTER_HEX_MUST_USE
 struct faster_hex_answer faster_hex_decode_with_case(const void *src, size_t len,
                                                      void *dst, size_t room, uint8_t policy);
+
+/* Decodes digits under a policy, and skips ASCII white space among them, also between the two digits of a byte. White
+ * space is a space, tab, newline, form feed or carriage return. So this call decodes what `xxd -p` and `openssl` print.
+ * The number of digits is the number of bytes that are not white space, and half of it is the room required. After
+ * FASTER_HEX_INVALID_CHAR, number is the index in the source. The call is not constant time: do not use it for keys.
+ * Errors, in the order tested: FASTER_HEX_UNKNOWN_POLICY, FASTER_HEX_ODD_LENGTH, FASTER_HEX_OUTPUT_TOO_SMALL,
+ * FASTER_HEX_INVALID_CHAR. */
+FASTER_HEX_MUST_USE
+struct faster_hex_answer faster_hex_decode_spaced(const void *src, size_t len,
+                                                  void *dst, size_t room, uint8_t policy);
 
 /* Writes the digits of `every` bytes, then `sep`, then the digits of the next `every` bytes, and so on. The last group
  * may be shorter, and no separator follows it. For example, the bytes 0, 1, 0x1b and 0x21 give 00:01:1b:21 if `every`

@@ -22,6 +22,7 @@
 //! |---|---|
 //! | digits in a buffer | [`hex_encode`], [`hex_encode_upper`] |
 //! | bytes in a buffer | [`hex_decode`], [`hex_decode_with_case`] |
+//! | the same from digits with white space | [`hex_decode_spaced`], [`hex_decode_spaced_with_case`] |
 //! | bytes in an array of a known length | [`hex_decode_array`], [`hex_decode_array_with_case`] |
 //! | to print bytes as digits, with a width or `0x` | [`Hex`], by `{}`, `{:x}` or `{:X}` |
 //! | to test digits, without decoding them | [`hex_check`], [`hex_check_with_case`] |
@@ -146,7 +147,7 @@ pub use crate::adapters::{
 };
 pub use crate::decode::{
     hex_check, hex_check_with_case, hex_decode, hex_decode_array, hex_decode_array_with_case,
-    hex_decode_with_case, CheckCase,
+    hex_decode_spaced, hex_decode_spaced_with_case, hex_decode_with_case, CheckCase,
 };
 #[cfg(feature = "alloc")]
 pub use crate::decode::{hex_decode_vec, hex_decode_vec_with_case};
