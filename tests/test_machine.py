@@ -754,6 +754,7 @@ AROUND = {
     "push": "{1}; pop rdx", "pop": "push rdx; {1}", "bzhi": "mov al,{0}; {1}",
     "ret": "call 1f; jmp 2f; 1: inc rcx; ret; 2: nop", "call": "{1}; add rdx,rax; jmp 2f; 1: inc rcx; ret; 2: nop",
     **{name: "{1}; inc rax; 1: nop" for name in FORMS if name[0] == "j"},
+    "jmp": "lea rcx,[rip+1f]; {1}; inc rax; 1: mov ecx,{0}",
     **{f"kortest{it}": "xor ecx,ecx; cmp dl,{0}; setb cl; neg rcx; kmovq k0,rcx; kmovq k1,rcx; {1}" for it in "bwdq"},
     "vzeroupper": "vmovdqu ymm0,ymmword ptr [rdi]; {1}",
 }

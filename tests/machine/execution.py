@@ -195,13 +195,22 @@ class Machine:
             step.push(self.image.address(state.at))
             state.calls += state.at,
         if name in ("jmp", "call"):
-            state.at = step.number(0)
+            state.at = self.target(step)
             self.finds(state)
         elif name[0] == "j":
             self.branches(state, step, condition(state.flags, name[1:]))
         else:
             TABLE[step.name](step)
         return True
+
+    def target(self, step):
+        """Where a jump or a call goes: to a number, or to a place in the file whose address a register has."""
+        if not step.operands[0].register:
+            return step.number(0)
+        base, at = self.place(step.get(0))
+        if base is not self.image.base:
+            raise Refused("jumps to somewhere else")
+        return at
 
     def branches(self, state, step, asked):
         """Goes on in each possible outcome of a branch."""
