@@ -45,7 +45,7 @@ EVERY_LENGTH = ("v2", "encode"), ("v3", "encode"), ("v3", "check")
 # Two functions only return texts. Of grouped calls, security.md says what no source of at most 1,024 bytes executes.
 LEFT = {f"faster_hex_{it}": 1 for it in CALLS if it not in POLICIES}
 LEFT |= {"x86-64-v3_encode": 1, "faster_hex_status_text": 8, "faster_hex_version": 2, "faster_hex_build": 5}
-LEFT["x86-64-vbmi_core_backend_Backend_decode_or_find_outlined"] = 27
+LEFT["x86-64-vbmi_core_backend_Backend_decode_or_find_outlined"] = 2
 LEFT |= {"x86-64-v2_encode_grouped": 1, "x86-64-v3_encode_grouped": 5}
 LEFT |= {"x86-64-v2_decode_grouped": 39, "x86-64-v3_decode_grouped": 39}
 LEFT |= {"x86-64-v2_codec_pieces_read_long_piece": 88, "x86-64-v3_codec_pieces_read_long_piece": 72}
