@@ -3,6 +3,7 @@
  * changed. It prints the level of the processor and `N passed, M failed` through port e9, which bochs copies to its
  * output. Then it ends bochs. */
 #include "../../crates/faster_hex_c/dispatch.c"
+#include "digits.h"
 
 enum { PLACES = 64, AROUND = 64, OLD = 0xa5, LONGEST = 1280 };
 
@@ -37,23 +38,15 @@ static unsigned next(void) {
     return (unsigned)(state >> 33);
 }
 
-/* The value of a digit, or -1. */
-static int value_of(uint8_t byte, uint8_t policy) {
-    if (byte >= '0' && byte <= '9') return byte - '0';
-    if (policy != 2 && byte >= 'a' && byte <= 'f') return byte - 'a' + 10;
-    if (policy != 1 && byte >= 'A' && byte <= 'F') return byte - 'A' + 10;
-    return -1;
-}
-
-static uint8_t digit_of(unsigned value, uint8_t policy) {
+static uint8_t digit_of(unsigned half, uint8_t policy) {
     bool is_upper = policy == 2 || (policy == 0 && next() % 2);
-    return (uint8_t)(value < 10 ? '0' + value : value - 10 + (is_upper ? 'A' : 'a'));
+    return (uint8_t)(half < 10 ? '0' + half : half - 10 + (is_upper ? 'A' : 'a'));
 }
 
 /* The index of the first byte that is no digit, or the length if there is none. */
 static size_t valid(const uint8_t *src, size_t len, uint8_t policy) {
     size_t at = 0;
-    while (at < len && value_of(src[at], policy) >= 0) at++;
+    while (at < len && value(policy, src[at]) >= 0) at++;
     return at;
 }
 
@@ -69,7 +62,7 @@ static bool holds(const uint8_t *src, size_t bytes, uint8_t policy) {
     for (size_t at = 0; at < sizeof room; at++) {
         size_t digit = 2 * (at - AROUND);
         bool is_decoded = at >= AROUND && at < AROUND + bytes;
-        int wanted = is_decoded ? value_of(src[digit], policy) * 16 + value_of(src[digit + 1], policy) : OLD;
+        int wanted = is_decoded ? value(policy, src[digit]) * 16 + value(policy, src[digit + 1]) : OLD;
         if (room[at] != wanted) return false;
     }
     return true;

@@ -12,6 +12,7 @@
 #include <unistd.h>
 
 #include "assembly.h"
+#include "digits.h"
 #include "faster_hex.h"
 
 enum { LONGEST = 300, OLD = 0xa5, THREADS = 8, TURNS = 200, DRAWN = 32000, LONGEST_DRAWN = 2000, WIDEST_DRAWN = 64 };
@@ -69,14 +70,6 @@ static struct faster_hex_answer run(const struct job *it) {
     default:
         return faster_hex_decode_grouped(it->src, it->len, it->dst, it->room, it->policy, it->every, it->sep);
     }
-}
-
-/* The value of a digit, or -1. */
-static int value(uint8_t policy, uint8_t byte) {
-    if (byte >= '0' && byte <= '9') return byte - '0';
-    if (byte >= 'a' && byte <= 'f' && policy != FASTER_HEX_UPPERCASE) return byte - 'a' + 10;
-    if (byte >= 'A' && byte <= 'F' && policy != FASTER_HEX_LOWERCASE) return byte - 'A' + 10;
-    return -1;
 }
 
 static bool is_group(size_t every, uint8_t sep) {
