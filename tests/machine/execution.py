@@ -11,7 +11,7 @@ import z3
 
 from . import Refused, hexadecimal
 from .forms import level_of
-from .instructions import TABLE, condition, opposite
+from .instructions import OPPOSITE, TABLE, condition
 from .loops import Loop, forget, forget_arguments, is_new
 from .operands import Step
 from .state import BASES, BEFORE, DESTINATION, INDEX, KEPT, RETURN, SEPARATOR, SOURCE, STACK, ids, indices, is_in
@@ -220,7 +220,7 @@ class Machine:
             it.at = step.number(0) if holds else after
             if zero and not asked.of:
                 it.gap = (zero[1], asked, step.name[1:]) if holds else \
-                    (zero[1], apply(z3.Not, asked), opposite(step.name[1:]))
+                    (zero[1], apply(z3.Not, asked), OPPOSITE[step.name[1:]])
             for head, loop in loops.items() if not self.is_trying else ():
                 loop.exits += [] if head <= it.at <= self.image.loops[head] else [it.copy()]
         self.left += [it for it, _ in outcomes[1:]]
