@@ -65,11 +65,10 @@ TEXT = """
 2 | movups movaps | x | V,W M,V
 4 | vmovdqu64 | x y z | V,W M,V
 4 | vmovdqa64 | x y z | V,W
-3 | vpbroadcastb | x y z | V,x V,m1
+3 | vpbroadcastb | x y z | V,x V,m1 V,r4
 3 | vpbroadcastw | x y z | V,x V,m2
 3 | vpbroadcastd | x y z | V,x V,m4
 3 | vpbroadcastq | x y z | V,x V,m8
-4 | vpbroadcastb | x y z | V,r4
 3 | vbroadcasti128 | y | V,m16
 4 | vbroadcasti32x4 | y z | V,m16
 4 | vpmovwb | x y z | H,V
@@ -78,22 +77,19 @@ TEXT = """
 4 | vpternlogq | x y z | V,V,W,i V,V,B8,i
 4 | vptestmd | x y z | k,V,W k,V,B4
 4 | kortestw | 0 | k,k
-4 | kmovq | 8 | k,R R,k
+4 | kmovq | 8 | R,k
 3 | vzeroupper | 0 | -
 """
 
 
 def kinds(letter, size):
-    """The operands that a letter stands for, of a size."""
-    wide = WIDTHS.get(size)
     half = {"x": ["x", "m8"], "y": ["x", "m16"], "z": ["y", "m32"]}.get(size)
-    memory = f"m{wide or size}"
+    memory = f"m{WIDTHS.get(size, size)}"
     return {"R": [f"r{size}"], "M": [memory], "E": [f"r{size}", memory], "V": [size], "W": [size, memory], "H": half,
             "B4": ["b4"], "B8": ["b8"], "-": [""]}.get(letter, [letter])
 
 
 def expanded(patterns, sizes):
-    """The forms that patterns stand for."""
     each = [(it.split(","), size) for it in patterns.split() for size in sizes.split()]
     return {",".join(it) for letters, size in each for it in itertools.product(*[kinds(a, size) for a in letters])}
 
@@ -117,7 +113,6 @@ FORMS, LEVEL_OF_EVEX = read(), 4
 
 
 def kind_of(operand):
-    """The kind of an operand."""
     if operand.number is not None:
         return "i"
     if operand.address:

@@ -17,17 +17,12 @@ ZERO = constant(0, 1)
 # Functions from terms to terms. They stand here by name, since values.py makes and keeps a term by its function.
 
 def bits_and_not(a, b):
-    """The bits of the second that are not in the first."""
     return ~a & b
 
 
 def have_common_bit(a, b):
     """The bit 1 if some bit is set in both, otherwise 0."""
     return If(a & b != 0, BitVecVal(1, 1), BitVecVal(0, 1))
-
-
-# A function for each bit of a byte.
-BITS = [partial(Extract, at, at) for at in range(8)]
 
 
 def saturate_word(word):
@@ -93,14 +88,14 @@ def overflow_with_carry(a, b, carry):
     return (~(a ^ b) & (a ^ add_with_carry(a, b, carry))) < 0
 
 
-# The result, the carry flag and the overflow flag of two operands.
+# The result, the carry flag and the overflow flag of two operands, and of the carry flag for `adc`.
 ARITHMETIC = {
     "add": (operator.add, lambda a, b: ULT(a + b, a), lambda a, b: (~(a ^ b) & (a ^ (a + b))) < 0),
     "sub": (operator.sub, ULT, lambda a, b: ((a ^ b) & (a ^ (a - b))) < 0),
     "and": (operator.and_, never, never), "andn": (bits_and_not, never, never),
     "or": (operator.or_, never, never), "xor": (operator.xor, never, never),
+    "adc": (add_with_carry, carry_with_carry, overflow_with_carry),
 }
-SHIFTS = {"shl": operator.lshift, "shr": LShR, "sar": operator.rshift}
 # Each condition as a function of flags: c for carry, z for zero, s for sign, o for overflow.
 CONDITIONS = {"b": (And, "c"), "e": (And, "z"), "be": (Or, "cz"), "s": (And, "s"), "l": (Xor, "so"),
               "le": (lambda zero, sign, overflow: Or(zero, Xor(sign, overflow)), "zso")}
@@ -108,7 +103,7 @@ OPPOSITES = {"ae": "b", "ne": "e", "a": "be", "ns": "s", "ge": "l", "g": "le"}
 EACH = *CONDITIONS, *OPPOSITES
 # For each condition the one that holds if it does not.
 OPPOSITE = OPPOSITES | {other: it for it, other in OPPOSITES.items()}
-# Instructions that combine two vectors lane by lane: the bytes of a lane, and the function.
+# For two vectors, lane by lane: the bytes of a lane, and the function.
 LANES = {
     "paddb": (1, operator.add), "psubb": (1, operator.sub), "paddw": (2, operator.add), "pmullw": (2, operator.mul),
     "paddusb": (1, lambda a, b: If(ULT(a + b, a), BitVecVal(255, 8), a + b)),
@@ -123,29 +118,18 @@ LANES |= {name + size: LANES[name] for name in ("pand", "por", "pxor") for size 
 # Lists of bytes. Each byte is a Value, and the lowest byte comes first.
 
 def lanes_of(values, size):
-    """The lanes of so many bytes."""
     return [values[at:at + size] for at in range(0, len(values), size)]
 
 
 def spread(values):
-    """The bytes of values one after the other."""
     return [byte for value in values for byte in bytes_of(value)]
 
 
 # Instructions that write their first operand. Each function returns the bytes that are written.
 
-def move(step):
-    return step.bytes(1, step.size(0))
-
-
 def move_low(size, step):
     """movd and movq: in a vector, the bytes above become zero."""
     return step.bytes(1, size) + [ZERO] * (16 - size if step.vector(0) else 0)
-
-
-def extend_zero(step):
-    """movzx."""
-    return step.bytes(1, step.size(1)) + [ZERO] * (step.size(0) - step.size(1))
 
 
 def extend_sign(step):
@@ -153,23 +137,12 @@ def extend_sign(step):
     return bytes_of(apply(SIGNED[step.size(0) - step.size(1)], step.get(1)))
 
 
-def load_address(step):
-    """lea."""
-    return bytes_of(step.address(1))[:step.size(0)]
-
-
 def broadcast(size, step):
     return step.bytes(1, size) * (step.width // size)
 
 
-def narrow(step):
-    """pmovwb: the lower byte of each word."""
-    return step.bytes(1, step.size(1))[::2]
-
-
 def lanewise(size, function, step):
-    first, second = step.sources()
-    both = zip(lanes_of(first, size), lanes_of(second, size))
+    both = zip(*[lanes_of(it, size) for it in step.sources()])
     return spread([apply(function, joined(a), joined(b)) for a, b in both])
 
 
@@ -180,22 +153,13 @@ def shift_lanes(size, function, step):
 
 def halfwise(function, step):
     """Applies a function to each lane of 16 bytes of two vectors."""
-    first, second = step.sources()
-    both = zip(lanes_of(first, 16), lanes_of(second, 16))
+    both = zip(*[lanes_of(it, 16) for it in step.sources()])
     return [it for a, b in both for it in function(a, b)]
 
 
 def shuffle_bytes(values, controls):
-    for it in controls:
-        known = it.number
-        if known is None:
-            yield apply(shuffle_byte, it, *values)
-        else:
-            yield ZERO if known & 128 else values[known & 15]
-
-
-def pack(a, b):
-    return [apply(saturate_word, joined(it)) for it in lanes_of(a + b, 2)]
+    return [apply(shuffle_byte, it, *values) if it.number is None else
+            ZERO if it.number & 128 else values[it.number & 15] for it in controls]
 
 
 def unpack(size, begin, a, b):
@@ -241,8 +205,7 @@ def blend(step):
 
 def combine_three(step):
     """pternlogq: the vector that is written is also the first that is read."""
-    number = constant(step.number(3), 1)
-    vectors = [step.bytes(at, step.width) for at in range(3)]
+    number, vectors = constant(step.number(3), 1), [step.bytes(at, step.width) for at in range(3)]
     return [apply(ternary_logic, number, *it) for it in zip(*vectors)]
 
 
@@ -259,17 +222,15 @@ def choose_lanes(size, controls, vectors, step):
 
 def choose_quarters(step):
     """shufi64x2: lanes of 16 bytes, the lower half from one vector and the upper half from another one."""
-    sources = [lanes_of(step.bytes(it, step.width), 16) for it in (1, 2)]
-    count = len(sources[0])
-    bits = count.bit_length() - 1
-    for at in range(count):
-        yield from sources[2 * at // count][step.number(3) >> bits * at & count - 1]
+    first, second = (lanes_of(step.bytes(it, step.width), 16) for it in (1, 2))
+    half = bits = len(first) // 2
+    for at, lanes in enumerate(half * [first] + half * [second]):
+        yield from lanes[step.number(3) >> bits * at & len(lanes) - 1]
 
 
 # Other instructions, which do all that they do to the state themselves.
 
 def write_result(function, step):
-    """Writes what one of the functions above returns."""
     step.write(list(function(step)))
 
 
@@ -284,29 +245,18 @@ def arithmetic(name, step, is_kept=True, counts=False, negates=False):
     """Sets the flags. `cmp` and `test` do not keep the result. `inc` and `dec` count by one and leave the carry. `neg`
     subtracts from zero."""
     result, carry, overflow = ARITHMETIC[name]
-    first = 1 if name == "andn" else 0
+    first = int(name == "andn")
     a = constant(0, step.size(0)) if negates else step.get(first)
     b = constant(1, step.size(0)) if counts else step.get(0 if negates else first + 1)
-    said = step.state.flags["c"] if counts else (carry, a, b)
-    set_with_flags(step, apply(result, a, b), said, (overflow, a, b), is_kept)
-
-
-def extend_rax(step):
-    """cdqe: the lower half of rax with its sign."""
-    step.write_register("rax", bytes_of(apply(SIGNED[4], joined(bytes_of(step.state.registers["rax"])[:4]))))
-
-
-def add_carry(step):
-    a, b, carry = step.get(0), step.get(1), apply(*step.state.flags["c"])
-    both = (carry_with_carry, a, b, carry), (overflow_with_carry, a, b, carry)
-    set_with_flags(step, apply(add_with_carry, a, b, carry), *both)
+    read = (a, b, apply(*step.state.flags["c"])) if name == "adc" else (a, b)
+    said = step.state.flags["c"] if counts else (carry, *read)
+    set_with_flags(step, apply(result, *read), said, (overflow, *read), is_kept)
 
 
 def multiply(step):
     """imul. Its flags are not modelled."""
-    value = apply(operator.mul, step.get(0), step.get(1))
+    step.set(apply(operator.mul, step.get(0), step.get(1)))
     step.state.flags.update(dict.fromkeys("czso"))
-    step.set(value)
 
 
 def divide(step):
@@ -322,10 +272,6 @@ def divide(step):
     step.write_register("rax" if size == 8 else "eax", bytes_of(quotient))
     step.write_register("rdx" if size == 8 else "edx", bytes_of(rest))
     step.state.flags.update(dict.fromkeys("czso"))
-
-
-def push(step):
-    step.push(step.get(0) if step.operands[0].number is None else constant(step.number(0), 8))
 
 
 def leave(step):
@@ -361,14 +307,10 @@ def condition(flags, name):
     return apply(function, *[apply(*flags[it]) for it in needed])
 
 
-def set_if(name, step):
-    """setCC: the byte 1 if the condition holds, otherwise 0."""
-    step.set(apply(If, step.condition(name), constant(1, 1), ZERO))
-
-
-def move_if(name, step):
-    """cmovCC: the second operand if the condition holds, otherwise the first."""
-    step.set(apply(If, step.condition(name), step.get(1), step.get(0)))
+def choose_if(name, step):
+    """cmovCC: the second operand if the condition holds, otherwise the first. setCC: the byte 1 or 0."""
+    holds, is_move = step.condition(name), len(step.operands) == 2
+    step.set(apply(If, holds, *((step.get(1), step.get(0)) if is_move else (constant(1, 1), ZERO))))
 
 
 def zero_upper(step):
@@ -383,27 +325,16 @@ def test_lanes(step):
     step.state.masks[step.operands[0].register] = bits + [Value(BitVecVal(0, 1))] * (64 - len(bits))
 
 
-def move_mask(step):
-    """kmovq, between a mask and a register."""
-    to, source = (it.register for it in step.operands)
-    if to[0] == "k":
-        step.state.masks[to] = [apply(it, byte) for byte in step.bytes(1, 8) for it in BITS]
-    else:
-        step.set(apply(concat, *step.state.masks[source]))
-
-
 def test_masks(step):
     """kortestw: zero if the first bits of two masks have none set, carry if each bit is set in one of them."""
-    first, second = (step.state.masks[it.register][:16] for it in step.operands)
-    bits = [apply(operator.or_, a, b) for a, b in zip(first, second)]
+    bits = [apply(operator.or_, *both) for both in zip(*[step.state.masks[it.register][:16] for it in step.operands])]
     step.state.flags.update(z=(are_all_zero, *bits), c=(are_all_one, *bits), s=(never,), o=(never,))
 
 
 def test_bits(step):
     """ptest: zero if the first `and` the second is 0, carry if `not` the first `and` the second is 0."""
     both = list(zip(step.bytes(0, step.width), step.bytes(1, step.width)))
-    common = [apply(operator.and_, a, b) for a, b in both]
-    only_second = [apply(bits_and_not, a, b) for a, b in both]
+    common, only_second = ([apply(it, a, b) for a, b in both] for it in (operator.and_, bits_and_not))
     step.state.flags.update(z=(are_all_zero, *common), c=(are_all_zero, *only_second), s=(never,), o=(never,))
 
 
@@ -417,12 +348,16 @@ SIZED = (
 # For choose_lanes: the size of a lane, where the control is, and the vectors.
 CHOSEN = {"permb": (1, 1, (2,)), "permi2b": (1, 0, (1, 2)), "permi2q": (8, 0, (1, 2)), "permt2b": (1, 1, (0, 2)),
           "permt2q": (8, 1, (0, 2))}
-HALVES = {"pshufb": shuffle_bytes, "packuswb": pack, "punpcklbw": partial(unpack, 1, 0),
-          "punpckhbw": partial(unpack, 1, 8), "punpcklqdq": partial(unpack, 8, 0)}
+HALVES = {"pshufb": shuffle_bytes, "punpcklbw": partial(unpack, 1, 0), "punpckhbw": partial(unpack, 1, 8),
+          "punpcklqdq": partial(unpack, 8, 0),
+          "packuswb": lambda a, b: [apply(saturate_word, joined(it)) for it in lanes_of(a + b, 2)]}
 WRITTEN = {
-    **dict.fromkeys("mov movabs movdqa movdqa64 movdqu movdqu64 movups movaps".split(), move),
-    "movzx": extend_zero, "movsx": extend_sign, "movsxd": extend_sign, "pmovwb": narrow, "lea": load_address,
-    "pop": lambda step: bytes_of(step.pop()), "perm2i128": choose_halves, "pternlogd": combine_three,
+    **dict.fromkeys("mov movabs movdqa movdqa64 movdqu movdqu64 movups movaps".split(),
+                    lambda step: step.bytes(1, step.size(0))),
+    "movzx": lambda step: step.bytes(1, step.size(1)) + [ZERO] * (step.size(0) - step.size(1)),
+    "movsx": extend_sign, "movsxd": extend_sign, "pmovwb": lambda step: step.bytes(1, step.size(1))[::2],
+    "lea": lambda step: bytes_of(step.address(1))[:step.size(0)], "pop": lambda step: bytes_of(step.pop()),
+    "perm2i128": choose_halves, "pternlogd": combine_three,
     "pternlogq": combine_three, "pblendd": blend, "shufi64x2": choose_quarters,
     "psllw": partial(shift_lanes, 2, operator.lshift), "psrlw": partial(shift_lanes, 2, LShR),
     **{name: partial(choose_lanes, *it) for name, it in CHOSEN.items()},
@@ -432,13 +367,17 @@ WRITTEN = {
 }
 TABLE = {
     **{name: partial(write_result, function) for name, function in WRITTEN.items()},
-    **dict.fromkeys(("nop", "endbr64"), lambda step: None), "push": push, "leave": leave, "zeroupper": zero_upper,
+    **dict.fromkeys(("nop", "endbr64"), lambda step: None), "leave": leave, "zeroupper": zero_upper,
     **{name: partial(arithmetic, name) for name in ARITHMETIC},
     "cmp": partial(arithmetic, "sub", is_kept=False), "test": partial(arithmetic, "and", is_kept=False),
     "inc": partial(arithmetic, "add", counts=True), "dec": partial(arithmetic, "sub", counts=True),
     "neg": partial(arithmetic, "sub", negates=True), "not": lambda step: step.set(apply(operator.inv, step.get(0))),
-    "adc": add_carry, "imul": multiply, "div": divide, "bzhi": keep_low_bits, "cdqe": extend_rax,
-    **{name: partial(shift, function) for name, function in SHIFTS.items()},
-    **{"set" + it: partial(set_if, it) for it in EACH}, **{"cmov" + it: partial(move_if, it) for it in EACH},
-    "ptest": test_bits, "ptestmd": test_lanes, "kortestw": test_masks, "kmovq": move_mask,
+    "imul": multiply, "div": divide, "bzhi": keep_low_bits,
+    "cdqe": lambda step: step.write_register("rax", bytes_of(
+        apply(SIGNED[4], joined(bytes_of(step.state.registers["rax"])[:4])))),
+    "shl": partial(shift, operator.lshift), "shr": partial(shift, LShR), "sar": partial(shift, operator.rshift),
+    **{begin + it: partial(choose_if, it) for begin in ("set", "cmov") for it in EACH},
+    "ptest": test_bits, "ptestmd": test_lanes, "kortestw": test_masks, 
+    "push": lambda step: step.push(constant(step.number(0), 8) if step.operands[0].number is not None else step.get(0)),
+    "kmovq": lambda step: step.set(apply(concat, *step.state.masks[step.operands[1].register])),
 }

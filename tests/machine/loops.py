@@ -56,10 +56,8 @@ class Loop:
 
     def __init__(self, machine, before, first, second):
         self.machine, self.turn = machine, z3.BitVec(f"turn {before.turns}", 64)
-        # The places whose values are unknown, and those whose values change with the turn.
-        self.unknown, self.moving = set(), set()
-        # The state before the loop, and the states in which it was left.
-        self.before, self.exits = before.copy(), []
+        # The places whose values are unknown, and those that change with the turn; the states in which it was left.
+        self.unknown, self.moving, self.exits, self.before = set(), set(), [], before.copy()
         self.state = it = before.copy()
         it.turns += 1
         it.loops[before.at] = self

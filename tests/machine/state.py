@@ -25,7 +25,6 @@ BEFORE = {it[0]: unknown(it[0], 8) for it in NAMED} | {"rsp": STACK}
 VECTOR = 64
 VECTORS = [bytes_of(unknown(f"vector {it}", VECTOR)) for it in range(16)]
 
-
 # In its model all variables are 0.
 EMPTY = z3.Solver()
 EMPTY.check()
@@ -97,12 +96,10 @@ class State:
         return other
 
     def values(self):
-        """The value in each place."""
         vectors = {(at, to): it for at, vector in enumerate(self.vectors) for to, it in enumerate(vector)}
         return self.registers | vectors | self.stack
 
     def put(self, values):
-        """Puts values in their places."""
         self.registers = {it: values[it] for it in self.registers}
         self.vectors = [[values[at, to] for to in range(VECTOR)] for at in range(len(self.vectors))]
         self.stack = {it: value for it, value in values.items() if type(it) is int}

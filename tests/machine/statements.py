@@ -89,7 +89,6 @@ class Shown:
         return joined([byte, unknown("above an argument", 7)]) if byte else known[word]
 
     def cases(self):
-        """The conditions that the definitions distinguish."""
         return [IS_HUGE if self.is_encoding else IS_ODD, self.is_small] if self.has_room else []
 
     def check(self, state):
@@ -138,8 +137,7 @@ class Shown:
             raise Refused("does not look at all digits")
 
     def check_invalid(self, state, index, byte):
-        """A call may report a byte as the first invalid one only if the path knows two things: that all bytes before it
-        are valid digits, and that it is not."""
+        """The path must know that all bytes before the reported one are valid digits, and that it is none."""
         if index.of or not self.machine.covers(state, state.valid, index.term) \
                 or not self.machine.is_one_invalid(state, index.term):
             raise Refused("reports another byte as the first invalid one")
@@ -170,8 +168,7 @@ class Shown:
             raise Refused("what is written is wrong")
 
     def side(self, state, at, index):
-        """Which of the two digits of a byte is concerned, 0 or 1, for an index in the destination and one in the
-        source."""
+        """Which digit of a byte is concerned, 0 or 1, for an index in the destination and one in the source."""
         term = at - 2 * index if self.is_encoding else index - 2 * at
         number = difference(term, ZERO.term)
         for it in range(2):
@@ -180,8 +177,7 @@ class Shown:
         raise Refused("what is written depends on other bytes")
 
     def differs(self, term, sides):
-        """Conditions that hold together only if a byte is not what the definitions give although the digits are
-        valid."""
+        """Conditions that hold together only if a byte is wrong although the digits are valid."""
         if self.is_encoding:
             return [term != hexadecimal.digits_of(X[0], self.is_upper)[sides[0]]]
         if sorted(sides) != [0, 1]:
@@ -191,15 +187,13 @@ class Shown:
 
 
 def ways_of(call):
-    """The policies and the cases of letters for which a call is shown."""
     policies = range(OTHER + 1) if "policy" in CALLS[call] else [POLICIES.get(call, 0)]
     cases = (False, True) if "upper" in CALLS[call] else (False,)
     return [(policy, is_upper) for policy in policies for is_upper in cases]
 
 
 def shown(image, build, call, most=None, least=0):
-    """Checks a call for every length: under each policy and for all numbers that are none, or for both cases of
-    letters."""
+    """Checks a call for every length, in each of its ways."""
     for at in image.calls(build, call, call not in POLICIES):
         for policy, is_upper in ways_of(call):
             yield Shown(image, at, call, policy, is_upper, most, least)
