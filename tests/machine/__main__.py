@@ -102,8 +102,7 @@ def functions(made, executed):
 
 
 def report(made, most, pairs, jobs=None):
-    """Says what is shown of a linked file, and whether all is, by a process for each call, as many at a time as there
-    are jobs. It prints what is said of a call as soon as it is known."""
+    """Says what is shown of calls, each in a process, and whether all is. What is said of one is printed at once."""
     with concurrent.futures.ProcessPoolExecutor(jobs) as pool:
         waiting = [pool.submit(checked, made, *it, most) for it in pairs]
         for it in concurrent.futures.as_completed(waiting):

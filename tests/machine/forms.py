@@ -27,8 +27,7 @@ TEXT = """
 2 | cdqe leave ret nop endbr64 | 0 | -
 2 | movabs | 8 | R,i
 2 | push | 8 | E i
-2 | pop | 8 | R
-2 | jmp | 8 | R
+2 | pop jmp | 8 | R
 2 | jmp call je jne jb jae jbe ja js jns jl jge jle jg | 0 | i
 2 | sete setne setb setae setbe seta sets setns setl setge setle setg | 1 | E
 2 | cmove cmovne cmovb cmovae cmovbe cmova cmovs cmovns cmovl cmovge cmovle cmovg | 2 4 8 | R,E

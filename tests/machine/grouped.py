@@ -28,7 +28,6 @@ IS_SEPARATOR = Value(z3.And(z3.ULT(SEPARATOR.term, 128), z3.Not(IS_DIGIT)))
 
 
 def text_length(count, every):
-    """The length of the text of so many bytes."""
     return 2 * count + ((count - 1) // every if count else 0)
 
 

@@ -120,9 +120,7 @@ class Image:
         yield from sorted(called)
         if called and not self.executed & own:
             raise Refused(f"{name} does not take the build {build}")
-        for at in sorted(own):
-            if at not in self.executed:
-                yield at
+        yield from (at for at in sorted(own) if at not in self.executed)
 
     def address(self, at):
         return plus(self.base, at)

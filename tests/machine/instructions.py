@@ -133,7 +133,6 @@ def move_low(size, step):
 
 
 def extend_sign(step):
-    """movsx and movsxd."""
     return bytes_of(apply(SIGNED[step.size(0) - step.size(1)], step.get(1)))
 
 
@@ -282,8 +281,7 @@ def leave(step):
 def keep_low_bits(step):
     """bzhi: keeps as many of the lowest bits as a byte says, whose value must be known."""
     count, value, bits = step.bytes(2, 1)[0].number, step.get(1), 8 * step.size(0)
-    if count < bits:
-        value = apply(operator.and_, value, constant(2**count - 1, bits // 8))
+    value = apply(operator.and_, value, constant(2**min(count, bits) - 1, bits // 8))
     set_with_flags(step, value, (partial(BoolVal, count >= bits),), (never,))
 
 

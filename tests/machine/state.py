@@ -45,7 +45,6 @@ def is_in(spans, index):
 
 
 def indices(spans):
-    """The indices in spans whose ends are numbers."""
     return {at for start, end in spans for at in range(start.as_long(), end.as_long())}
 
 
@@ -85,8 +84,7 @@ class State:
         # the source was first read; whether the path has just forgotten some; the addresses that it executed, and how
         # many instructions; what its last branch on public values compared with zero, with the condition that held and
         # its name; and where calls return to.
-        self.early, self.is_general, self.passed, self.steps, self.gap = None, False, set(), 0, None
-        self.calls = ()
+        self.early, self.is_general, self.passed, self.steps, self.gap, self.calls = None, False, set(), 0, None, ()
 
     def copy(self):
         other = copy.copy(self)

@@ -32,8 +32,7 @@ IS_NO_POLICY = Value(z3.UGT(POLICY.term, hexadecimal.UPPERCASE))
 
 
 def is_valid_pointer(pointer, length):
-    """Whether a pointer to so many bytes may be passed: it is null only for no bytes, and the bytes do not go beyond
-    the last address."""
+    """Whether a pointer to so many bytes may be passed: null only for no bytes, and none beyond the last address."""
     return z3.And(z3.Or(pointer != 0, length == 0), z3.ULE(pointer, ~length))
 
 
@@ -97,7 +96,14 @@ class Shown:
         for case in self.machine.cases:
             states = [(it, [*known, holds]) for one, known in states for it, holds in self.machine.outcomes(one, case)]
         for it, known in states:
-            self.check_case(it, *self.expected(it, *known))
+            status, number = self.expected(it, *known)
+            is_done = status == DONE and self.has_room
+            if not (self.machine.covers(it, it.written, self.writes.term) if is_done else it.written == ()):
+                raise Refused("writes too much or too little")
+            if self.has_room or self.call == "first_invalid":
+                self.check_answer(it, status, number)
+            else:
+                self.check_bool(it, status)
 
     def expected(self, state, is_no_length=False, is_small=False):
         """The status and the number that the definitions give. If a digit is invalid, check_invalid has the number."""
@@ -108,15 +114,6 @@ class Shown:
         if is_small:
             return TOO_SMALL, self.writes
         return INVALID if state.refused else DONE, self.writes
-
-    def check_case(self, state, status, number):
-        is_done = status == DONE and self.has_room
-        if not (self.machine.covers(state, state.written, self.writes.term) if is_done else state.written == ()):
-            raise Refused("writes too much or too little")
-        if self.has_room or self.call == "first_invalid":
-            self.check_answer(state, status, number)
-        else:
-            self.check_bool(state, status)
 
     def is_equal(self, state, value, term):
         return not value.of and self.machine.is_shown(state, value.term == term)
