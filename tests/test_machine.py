@@ -755,7 +755,7 @@ AROUND = {
     "ret": "call 1f; jmp 2f; 1: inc rcx; ret; 2: nop", "call": "{1}; add rdx,rax; jmp 2f; 1: inc rcx; ret; 2: nop",
     **{name: "{1}; inc rax; 1: nop" for name in FORMS if name[0] == "j"},
     "jmp": "lea rcx,[rip+1f]; {1}; inc rax; 1: mov ecx,{0}",
-    **{f"kortest{it}": "xor ecx,ecx; cmp dl,{0}; setb cl; neg rcx; kmovq k0,rcx; kmovq k1,rcx; {1}" for it in "bwdq"},
+    "kortestw": "vptestmd k0,zmm0,zmm0; vptestmd k1,zmm1,zmm2; {1}",
     "vzeroupper": "vmovdqu ymm0,ymmword ptr [rdi]; {1}",
 }
 # Numbers for instructions that have one.
@@ -790,7 +790,7 @@ def programs_of(name, form):
     for number, prefix in itertools.product(GIVEN, ["", "{evex} "] if wide != form and wide in FORMS[name] else [""]):
         text = f"{prefix}{name} {', '.join(operand_of(name, it, at, number) for at, it in enumerate(kinds))}"
         text = AROUND.get(name, "{1}").format(number, text)
-        text = f"kmovq k1,rdx; {text}" if kinds[1:] == ["k"] and name not in AROUND else text
+        text = f"vptestmd k1,zmm0,zmm1; {text}" if kinds[1:] == ["k"] and name not in AROUND else text
         text = f"{text}; kmovq rax,k0" if kinds[:1] == ["k"] and name not in AROUND else text
         numbers = ",".join(map(str, range(3, 195, 3)))
         yield text + (f"; jmp 8f; .p2align 6; 9: .byte {numbers}; 8: nop" if "9f" in text else "")

@@ -8,6 +8,7 @@ import subprocess
 import sys
 import tempfile
 import time
+from functools import partial
 from pathlib import Path
 
 # When this tool began, before its other files were read.
@@ -24,7 +25,6 @@ from .statements import CALLS, shown
 from .values import forget
 
 TOP = Path(__file__).resolve().parents[2]
-# The build for which answers are kept.
 KEPT = []
 # The builds for AVX-512 have the calls that check and decode.
 WIDEST = [it for it in CALLS if it.startswith(("check", "decode")) and it not in GROUPED]
@@ -37,7 +37,6 @@ SOURCES += sorted(f"tests/machine/{it.name}" for it in Path(__file__).parent.glo
 
 
 def sums():
-    """How the record begins."""
     lines = [f"sha256 {hashlib.sha256((TOP / it).read_bytes()).hexdigest()}  {it}\n" for it in SOURCES]
     return "Written by `python3 -m machine record`: do not edit.\n" + "".join(lines)
 
@@ -52,7 +51,6 @@ def tools(file, made):
 
 
 def branches(those):
-    """How many branches on valid digits a call has, in words."""
     short, beyond = max(it.tests for it in those), max(it.long_tests for it in those)
     turns = sorted({it for one in those for it in one.machine.turns})
     words = f"{short} branches on valid digits"
@@ -71,7 +69,7 @@ def levels_of(build, call):
 def checked(made, build, call, most):
     """What is said of a call, whether it is shown, and the addresses that were executed."""
     executed = set()
-    # Calls of a build have much in common, so what Z3 has answered is kept for the next one, but not for grouped calls.
+    # Calls of a build have much in common, so what Z3 answered is kept for the next one, but not for grouped calls.
     if KEPT != [build] or call in GROUPED:
         forget()
         KEPT[:] = [build]
@@ -104,8 +102,7 @@ def functions(made, executed):
 
 
 def report(made, most, pairs, jobs=None):
-    """Says what is shown of a linked file, and whether all is, by a process for each call, as many at a time as there
-    are jobs. It prints what is said of a call as soon as it is known."""
+    """Says what is shown of calls, each in a process, and whether all is. What is said of one is printed at once."""
     with concurrent.futures.ProcessPoolExecutor(jobs) as pool:
         waiting = [pool.submit(checked, made, *it, most) for it in pairs]
         for it in concurrent.futures.as_completed(waiting):
@@ -136,7 +133,6 @@ def image_of(folder, file):
 
 
 def check(folder, given):
-    """Checks a file, and returns the status."""
     made = image_of(folder, given.file)
     pairs = pairs_of(made, [it for it in (given.build, given.call) if it])
     print(*tools(given.file, made), sep="\n", flush=True)
@@ -156,13 +152,10 @@ def record(folder, began=BEGAN, jobs=None):
     (TOP / "generated/SHOWN").write_text(begin + "\n".join([*tools(file, made), *said, *lines]) + "\n")
 
 
-def number(least, name):
-    """A function that reads a number from the command line."""
-    def read(text):
-        if not re.fullmatch(r"\d{1,19}", text, re.A) or int(text) < least:
-            raise argparse.ArgumentTypeError(f"{text} is no {name}")
-        return int(text)
-    return read
+def number(least, name, text):
+    if not re.fullmatch(r"\d{1,19}", text, re.A) or int(text) < least:
+        raise argparse.ArgumentTypeError(f"{text} is no {name}")
+    return int(text)
 
 
 def arguments(words):
@@ -170,7 +163,7 @@ def arguments(words):
     ends = "The status is 0 if all is shown, 1 if something is not, 2 for a file or words that nothing is checked of."
     parser = argparse.ArgumentParser("python3 -m machine", description=about, epilog=ends)
     jobs = argparse.ArgumentParser(add_help=False)
-    jobs.add_argument("--jobs", type=number(1, "number of jobs"), default=os.cpu_count(), metavar="N",
+    jobs.add_argument("--jobs", type=partial(number, 1, "number of jobs"), default=os.cpu_count(), metavar="N",
                       help="how many calls are checked at the same time (as many as there are processors)")
     commands = parser.add_subparsers(dest="command", required=True, metavar="check | record")
     it = commands.add_parser("check", parents=[jobs], epilog=ends, help="check a file. This writes nothing.",
@@ -178,7 +171,8 @@ def arguments(words):
     it.add_argument("file", type=Path, help="an archive of the library, or a linked file that contains it")
     it.add_argument("build", nargs="?", choices=BUILDS, help="the build to check")
     it.add_argument("call", nargs="?", choices=CALLS, metavar="call", help=f"the call to check: {', '.join(CALLS)}")
-    it.add_argument("most", nargs="?", type=number(0, "length"), help="the greatest length of a source, in bytes")
+    it.add_argument("most", nargs="?", type=partial(number, 0, "length"),
+                    help="the greatest length of a source, in bytes")
     commands.add_parser("record", parents=[jobs], help="build the library in a folder of its own, check all of it, and "
                         "write generated/SHOWN")
     given = parser.parse_args(words)
@@ -187,19 +181,15 @@ def arguments(words):
     return given
 
 
-def main(folder, given):
-    return check(folder, given) if given.command == "check" else record(folder, jobs=given.jobs)
-
-
 if __name__ == "__main__":
     asked = arguments(sys.argv[1:])
     try:
         with tempfile.TemporaryDirectory() as made_in:
-            sys.exit(main(made_in, asked))
+            is_check = asked.command == "check"
+            sys.exit(check(made_in, asked) if is_check else record(made_in, jobs=asked.jobs))
     except Refused as why:
         sys.exit(f"refused: {why}")
     except (OSError, ValueError, subprocess.CalledProcessError) as why:
-        failed = isinstance(why, subprocess.CalledProcessError)
-        said = f"{Path(why.cmd[0]).name} does not read it" if failed else why
+        said = f"{Path(why.cmd[0]).name} does not read it" if hasattr(why, "cmd") else why
         print(f"{getattr(asked, 'file', 'record')}: {said}", file=sys.stderr)
         sys.exit(2)

@@ -17,6 +17,7 @@ from .state import REGISTERS
 LINE = re.compile(r" *([0-9a-f]+):\t((?:[0-9a-f]{2} )+) *\t([^#<\n]*)", re.A)
 # Prefixes have no effect on a nop.
 NOP = re.compile(r"(?:data16 |cs )*nop\b.*|xchg +ax,ax")
+VECTORS = {"xmm": 16, "ymm": 32, "zmm": 64}
 SIZES = {"BYTE": 1, "WORD": 2, "DWORD": 4, "QWORD": 8, "XMMWORD": 16, "YMMWORD": 32, "ZMMWORD": 64}
 MEMORY = re.compile(r"(?:(\w+) (PTR|BCST) )?\[(.*)\]")
 NUMBER = re.compile(r"-?0x[0-9a-f]+|[0-9a-f]{4,}|\d")
@@ -46,13 +47,7 @@ class Instruction:
     operands: tuple
 
 
-def register_size(name):
-    """How many bytes the name of a register means. Of a mask it does not matter."""
-    return {"xmm": 16, "ymm": 32, "zmm": 64}.get(name[:3]) or REGISTERS.get(name, (name, 8))[1]
-
-
 def address(text):
-    """The base, index, scale and distance of an address."""
     base, index, scale, distance = None, None, 1, 0
     for it in re.findall(r"-?[^-+]+", text):
         if "0x" in it:
@@ -65,7 +60,6 @@ def address(text):
 
 
 def operand(text):
-    """An operand as objdump writes it."""
     if found := MEMORY.fullmatch(text):
         return Operand(SIZES.get(found[1]), address=address(found[3]), is_repeated=found[2] == "BCST")
     if NUMBER.fullmatch(text):
@@ -74,7 +68,8 @@ def operand(text):
         raise Refused("it reads what the thread has, as a stack protector does, which calls another function")
     if not re.fullmatch(r"[a-z]+\d*[bwd]?", text):
         raise Refused(f"an operand that is not known: {text}")
-    return Operand(register_size(text), register=text)
+    # Of a mask the size does not matter.
+    return Operand(VECTORS.get(text[:3]) or REGISTERS.get(text, (text, 8))[1], register=text)
 
 
 def output(*words):
@@ -101,7 +96,6 @@ def instruction(at, code, text):
 
 
 def is_wide(read):
-    """Whether an instruction is one of AVX-512."""
     return read.code[0] == EVEX or read.name[0] == "k"
 
 

@@ -11,7 +11,7 @@ import z3
 
 from . import Refused, hexadecimal
 from .forms import level_of
-from .instructions import TABLE, condition, opposite
+from .instructions import OPPOSITE, TABLE, condition
 from .loops import Loop, forget, forget_arguments, is_new
 from .operands import Step
 from .state import BASES, BEFORE, DESTINATION, INDEX, KEPT, RETURN, SEPARATOR, SOURCE, STACK, ids, indices, is_in
@@ -32,7 +32,6 @@ def parts(term):
 
 
 def conjuncts(term, is_negated=False):
-    """The conjuncts of a condition, or of its negation."""
     if z3.is_not(term):
         yield from conjuncts(term.arg(0), not is_negated)
     elif (z3.is_or if is_negated else z3.is_and)(term):
@@ -85,21 +84,18 @@ class Machine:
         self.image, self.length, self.writes, self.kind_of = image, length, writes, kind_of
         self.facts, self.check_byte, self.whole = facts, check_byte, ((z3.BitVecVal(0, 64), length.term),)
         self.is_fixed = length.number is not None
-        # The conditions that the definitions distinguish, and where the arguments end that have no register. They stand
-        # above the return address, and the call may change them.
-        self.cases, self.above = (), 8
-        # What is checked, for states that were executed on a processor of another level.
-        self.call = None
-        # The states that are left to execute, those that may be joined, the first part of each name of a byte, and the
-        # addresses that were executed, the last one of them by itself.
-        self.left, self.joined, self.terms, self.executed, self.at = [], {}, {}, set(), None
-        # How many bytes of frames were read before something was written there.
-        self.unwritten = 0
+        # What is checked, the conditions that the definitions distinguish, and where the arguments end that have no
+        # register. They stand above the return address, and the call may change them.
+        self.call, self.cases, self.above = None, (), 8
+        # The first part of each name of a byte, the address that was executed last, and how many bytes of frames were
+        # read before something was written there.
+        self.terms, self.at, self.unwritten = {}, None, 0
         # While turns are tried, nothing is shown. Of each loop that has branches on valid digits, how many a turn has,
         # and the number of digits that it tests.
         self.is_trying, self.turns = False, set()
-        # The loops with their general states, which are the record that replay.py checks.
-        self.loops = []
+        # The states that are left to execute, those that may be joined, the addresses that were executed, and the loops
+        # with their general states, which are the record that replay.py checks.
+        self.left, self.joined, self.executed, self.loops = [], {}, set(), []
 
     def run(self, state):
         """The states at the ends of all paths, where the call has returned. If a loop is found, this begins again."""
@@ -155,30 +151,35 @@ class Machine:
 
     def turn(self, state):
         """Tries to find a state after a turn of a loop. Nothing is shown on the way. If there is none, returns None."""
-        head, last, others, steps = state.at, self.image.loops[state.at], self.left, 0
-        it, self.left = state.copy(), []
-        self.advances(it)
-        self.left.append(it)
-        while self.left and it.at != head:
-            it = self.left.pop()
-            while head < it.at <= last and steps < MOST_STEPS and self.advances(it):
-                steps += 1
+        others = self.left
+        found = next((it for it in self.through(state.copy()) if it.at == state.at), None)
         self.left = others
-        return it if it.at == head else None
+        return found
+
+    def through(self, state):
+        """Executes a loop from its head, and yields the states on all paths at its head again or where it is left."""
+        head, last, self.left, steps = state.at, self.image.loops[state.at], [], 0
+        self.advances(state)
+        self.left.append(state)
+        while self.left:
+            state = self.left.pop()
+            while head < state.at <= last and steps < MOST_STEPS and self.advances(state):
+                steps += 1
+            yield state
 
     def advances(self, state):
         """Executes an instruction. Returns False if the call has returned."""
         self.at = state.at
         read = self.image.instruction(self.at)
         needed = level_of(read)
-        if needed is None:
-            raise Refused(f"this instruction has no model: {read.text} at {self.at:#x}")
-        if needed > (self.image.level or needed):
-            raise Refused(f"x86-64-v{self.image.level} does not have this instruction: {read.text} at {self.at:#x}")
         state.at = read.end
         state.passed.add(self.at)
         state.steps += 1
         try:
+            if needed is None:
+                raise Refused("this instruction has no model")
+            if needed > (self.image.level or needed):
+                raise Refused(f"x86-64-v{self.image.level} does not have this instruction")
             if state.steps > MOST_STEPS:
                 raise Refused("a path without an end")
             if not self.is_trying:
@@ -195,7 +196,11 @@ class Machine:
             step.push(self.image.address(state.at))
             state.calls += state.at,
         if name in ("jmp", "call"):
-            state.at = self.target(step)
+            # A register may have the address of a place in the file.
+            base, at = self.place(step.get(0)) if step.operands[0].register else (self.image.base, step.number(0))
+            if base is not self.image.base:
+                raise Refused("jumps to somewhere else")
+            state.at = at
             self.finds(state)
         elif name[0] == "j":
             self.branches(state, step, condition(state.flags, name[1:]))
@@ -203,24 +208,13 @@ class Machine:
             TABLE[step.name](step)
         return True
 
-    def target(self, step):
-        """Where a jump or a call goes: to a number, or to a place in the file whose address a register has."""
-        if not step.operands[0].register:
-            return step.number(0)
-        base, at = self.place(step.get(0))
-        if base is not self.image.base:
-            raise Refused("jumps to somewhere else")
-        return at
-
     def branches(self, state, step, asked):
-        """Goes on in each possible outcome of a branch."""
-        after, zero, loops = state.at, state.flags["z"], state.loops
+        after, zero, loops, name = state.at, state.flags["z"], state.loops, step.name[1:]
         outcomes = self.outcomes(state, asked)
         for it, holds in outcomes:
             it.at = step.number(0) if holds else after
             if zero and not asked.of:
-                it.gap = (zero[1], asked, step.name[1:]) if holds else \
-                    (zero[1], apply(z3.Not, asked), opposite(step.name[1:]))
+                it.gap = zero[1], *((asked, name) if holds else (apply(z3.Not, asked), OPPOSITE[name]))
             for head, loop in loops.items() if not self.is_trying else ():
                 loop.exits += [] if head <= it.at <= self.image.loops[head] else [it.copy()]
         self.left += [it for it, _ in outcomes[1:]]
@@ -228,15 +222,13 @@ class Machine:
             self.finds(it)
 
     def finds(self, state):
-        """Notices a loop, if a path jumps back to where it was before."""
         is_back = state.at <= self.at and state.at in state.passed
         if is_back and not self.is_fixed and self.image.loops.get(state.at, 0) < self.at:
             self.image.loops[state.at] = self.at
             raise Found
 
     def returns(self, state, to):
-        """Returns to a function that the call called, or ends the call. At the end it checks the registers that a call
-        must restore."""
+        """Returns to a function that the call called, or ends the call, which must have restored some registers."""
         base, at = (None, 0) if to.of else self.place(to)
         if base is self.image.base:
             state.at, state.calls = at, state.calls[:-1]
@@ -263,16 +255,13 @@ class Machine:
         return is_proved((*key, len(terms), refused), lambda: [*self.known(state), *map(z3.Not, terms)])
 
     def covers(self, state, spans, count):
-        """Whether spans have all indices below a number."""
         if self.is_fixed:
             return {*range(count.as_long())} <= indices(spans)
         return self.is_shown(state, z3.Implies(z3.ULT(INDEX, count), is_in(spans, INDEX)))
 
     def is_one_invalid(self, state, index):
-        """Whether a byte is known to be no digit."""
         if self.is_fixed:
-            only, valid = {z3.simplify(index).as_long()}, indices(state.valid)
-            return any(indices(it) - valid == only for it in state.refused)
+            return {z3.simplify(index).as_long()} in [indices(it) - indices(state.valid) for it in state.refused]
         return self.is_shown(state, *[z3.BitVec(f"invalid {it}", 64) == index for it in range(len(state.refused))])
 
     def settle(self, state):
@@ -287,7 +276,11 @@ class Machine:
         if z3.is_true(asked.term) or z3.is_false(asked.term):
             return [(state, z3.is_true(asked.term))]
         self.settle(state)
-        return self.of_bytes(state, asked) if asked.of else self.of_public(state, asked)
+        if asked.of:
+            return self.of_bytes(state, asked)
+        other = state.copy()
+        state.facts, other.facts = (*state.facts, asked), (*state.facts, apply(z3.Not, asked))
+        return self.possible(state, [(state, True), (other, False)])
 
     def possible(self, state, outcomes):
         """Those of these two outcomes that are not shown to be impossible. The first one becomes this state."""
@@ -297,19 +290,16 @@ class Machine:
         state.__dict__ = outcomes[0][0].__dict__
         return [(state, outcomes[0][1]), *outcomes[1:]]
 
-    def of_public(self, state, asked):
-        """For a condition on public values, which do not depend on the bytes: addresses, lengths and the policy."""
-        other = state.copy()
-        state.facts, other.facts = (*state.facts, asked), (*state.facts, apply(z3.Not, asked))
-        return self.possible(state, [(state, True), (other, False)])
-
     def of_bytes(self, state, asked):
-        """For a condition on the bytes."""
+        """The same for a condition on the bytes. If the length is one number, sets of indices say what is possible."""
         digits, sign = self.asked(asked)
         spans, other = self.spans(digits), state.copy()
         state.valid, other.refused = (*state.valid, *spans), (*state.refused, spans)
         if self.is_fixed:
-            return self.of_known_bytes(state, other, indices(spans), sign)
+            if any(indices(it) <= indices(state.valid) for it in state.refused):
+                state.__dict__ = other.__dict__
+                return [(state, not sign)]
+            return [(state, sign)] if indices(spans) <= indices(other.valid) else [(state, sign), (other, not sign)]
         outcomes = self.possible(state, [(state, sign), (other, not sign)])
         for it, _ in outcomes if len(outcomes) > 1 else []:
             it.tests += 1
@@ -317,33 +307,16 @@ class Machine:
                 self.forgets(it)
         return outcomes
 
-    def forgets(self, state):
-        forget(self, state)
-
-    @staticmethod
-    def of_known_bytes(state, other, tested, sign):
-        """The same, if the length is one number, for the indices of these bytes."""
-        if any(indices(it) <= indices(state.valid) for it in state.refused):
-            state.__dict__ = other.__dict__
-            return [(state, not sign)]
-        return [(state, sign)] if tested <= indices(other.valid) else [(state, sign), (other, not sign)]
+    forgets = forget
 
     def holds(self, state, asked):
         """Whether a condition holds on this path for all bytes."""
         return [holds for _, holds in self.outcomes(state.copy(), asked)] == [True]
 
-    def named(self, index):
-        """The name of the byte of the source at an index: the term without a number that is added, and this number."""
-        numbers = [it for it in index.children() if z3.is_bv_value(it)] if z3.is_app_of(index, z3.Z3_OP_BADD) else []
-        at = index.as_signed_long() if z3.is_bv_value(index) else sum(it.as_signed_long() for it in numbers)
-        rest = z3.simplify(index - at)
-        return self.terms.setdefault(rest.get_id(), rest).get_id(), at
-
     def index(self, name):
         return self.terms[name[0]] + name[1]
 
     def spans(self, names):
-        """The spans of some bytes."""
         starts = sorted(it for it in names if (it[0], it[1] - 1) not in names)
         ends = sorted(it for it in names if (it[0], it[1] + 1) not in names)
         return tuple([(z3.simplify(self.index(a)), z3.simplify(self.index(b) + 1)) for a, b in zip(starts, ends)])
@@ -394,7 +367,6 @@ class Machine:
         state.stack = {it: value for it, value in state.stack.items() if it >= at - RED_ZONE}
 
     def load(self, state, address, size):
-        """The bytes at an address that the call may read."""
         if address.of and (state.refused or self.is_fixed):
             return [self.looked_up(plus(address, it)) for it in range(size)]
         base, at = self.place(address)
@@ -416,15 +388,18 @@ class Machine:
         return state.stack.get(at) if at >= self.end_of(state) else None
 
     def of_source(self, state, at, size):
-        """Bytes of the source."""
         self.claim(state, at, size, self.length.term)
         if state.early is None:
             state.early = len(state.facts)
             if self.is_fixed:
                 self.settle(state)
                 forget_arguments(self, state)
-        rest, at = self.named(at)
-        return [Value(X[0], ((rest, it),)) for it in range(at, at + size)]
+        # The name of a byte is the term of the index without a number that is added, and this number.
+        numbers = [it for it in at.children() if z3.is_bv_value(it)] if z3.is_app_of(at, z3.Z3_OP_BADD) else []
+        number = at.as_signed_long() if z3.is_bv_value(at) else sum(it.as_signed_long() for it in numbers)
+        rest = z3.simplify(at - number)
+        rest = self.terms.setdefault(rest.get_id(), rest).get_id()
+        return [Value(X[0], ((rest, it),)) for it in range(number, number + size)]
 
     def looked_up(self, address):
         """The byte at an address that depends on one byte, in a table of constants: it is read for all 256 of them."""

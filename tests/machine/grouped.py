@@ -1,5 +1,7 @@
 """What must hold of a call for digits in groups, for a source of one length and groups of one size. The bytes drive its
 loops, so it is executed turn by turn. The separator is unknown."""
+import itertools
+
 import z3
 
 from . import Refused, hexadecimal
@@ -26,7 +28,6 @@ IS_SEPARATOR = Value(z3.And(z3.ULT(SEPARATOR.term, 128), z3.Not(IS_DIGIT)))
 
 
 def text_length(count, every):
-    """The length of the text of so many bytes."""
     return 2 * count + ((count - 1) // every if count else 0)
 
 
@@ -89,17 +90,14 @@ class Grouped(Shown):
 
 
 def shown_grouped(image, build, call, most=None):
-    """Checks a call for each length of its source up to a number, and for each size of a group, and for some longer
-    sources."""
+    """Checks a call for some longer sources, and for each length up to a number with groups of each size."""
     is_encoding = call == "encode_grouped"
     pairs = [(length, every) for length in range((MOST if most is None else most) + 1)
              for every in [*range((length if is_encoding else length // 2) + 1), None]]
     longer = ENCODED if is_encoding else [(text_length(count, every), every) for count, every in LONGER]
     longer = [it for it in longer if most is None or it[0] <= most]
+    ways = ways_of(call)
     for at in image.calls(build, call):
-        for length, every in longer:
-            for way in ways_of(call)[:None if is_encoding else 1]:
-                yield Grouped(image, at, call, length, every, *way)
-        for length, every in pairs:
-            for way in ways_of(call):
+        for those, each in (longer, ways[:None if is_encoding else 1]), (pairs, ways):
+            for (length, every), way in itertools.product(those, each):
                 yield Grouped(image, at, call, length, every, *way)

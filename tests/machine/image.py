@@ -31,8 +31,7 @@ def linked(made, *objects):
 
 @dataclass
 class Region:
-    """Addresses from the first to before the end, which the file has from a place on. `entry` is 0, or the size of the
-    constants that it has."""
+    """Addresses, and where the file has them. `entry` is 0, or the size of the constants that are there."""
     first: int
     end: int
     begin: int
@@ -104,15 +103,12 @@ class Image:
             raise Refused("its relocations are packed")
         return {int(at, 16): int(to, 16) if kind == "RELATIVE" else None for at, kind, to in RELOCATION.findall(text)}
 
-    def own(self, build, call):
-        """The addresses of a build's own functions for a call. A program may have that of the C library and another."""
-        name = re.compile(rf"\w+_x86_64_{build}_{call}(_of_c)?(_unproved)?")
-        return {at for it, places in self.symbols.items() if name.fullmatch(it) for at in places}
-
     def calls(self, build, call, has_name=True):
         """The addresses at which a build's call is to be checked: that of the call for C, if it has one, which takes
         its build by the level, and then those of the build's own functions that this has not executed."""
-        own, name = self.own(build, call), f"faster_hex_{call}"
+        # A program may have the own functions of the C library and those of another one.
+        pattern, name = re.compile(rf"\w+_x86_64_{build}_{call}(_of_c)?(_unproved)?"), f"faster_hex_{call}"
+        own = {at for it, places in self.symbols.items() if pattern.fullmatch(it) for at in places}
         called = self.symbols.get(name, set()) if has_name else set()
         if not own:
             raise Refused("the file does not have it")
@@ -124,16 +120,13 @@ class Image:
         yield from sorted(called)
         if called and not self.executed & own:
             raise Refused(f"{name} does not take the build {build}")
-        for at in sorted(own):
-            if at not in self.executed:
-                yield at
+        yield from (at for at in sorted(own) if at not in self.executed)
 
     def address(self, at):
-        """An address as a value."""
         return plus(self.base, at)
 
     def bytes_at(self, at, size):
-        """The bytes of the file at an address that nothing writes, or None."""
+        """Those that nothing writes, or None."""
         for it in self.constants:
             begin = at - it.first
             if it.has(Region(at, at + size, 0, "")) and not (it.entry and begin % it.entry + size > it.entry):
@@ -155,7 +148,6 @@ class Image:
         return [*found.values()]
 
     def instruction(self, at):
-        """The instruction at an address."""
         if at not in self.texts:
             names = [it for it, places in self.symbols.items() if at in places]
             raise Refused(f"it calls another function, {names[0]}" if names else f"no instruction at {at:#x}")
@@ -165,7 +157,6 @@ class Image:
         return code.instruction(at, made, text)
 
     def instructions(self, begin, size):
-        """The addresses in a function of those instructions that some path should execute. The others fill the space
-        between two functions or stand where nothing comes."""
+        """The addresses in a function that some path should execute. The others fill space, or nothing comes there."""
         return {at for at in range(begin, begin + size) if at in self.texts and
                 not code.NOP.fullmatch(self.texts[at][1]) and self.texts[at][1] not in ("int3", "ud2")}

@@ -3,68 +3,31 @@ that performs the instruction on a Step of operands.py, if it has one of the for
 each of them on the processor too, and compares the results.
 
 Operands are bit vectors of Z3. There, `<`, `>` and `>>` take the highest bit for a sign, while ULT and LShR do not."""
-import functools
 import operator
 from functools import partial
 
-from z3 import And, BitVecVal, BoolVal, Extract, If, LShR, Not, Or, SignExt, UDiv, UGE, UGT, ULE, ULT, URem, Xor
-from z3 import ZeroExt
+from z3 import And, BitVecVal, BoolVal, Extract, If, LShR, Not, Or, SignExt, UDiv, ULT, URem, Xor, ZeroExt
 
 from . import Refused
 from .values import Value, apply, bytes_of, concat, constant, joined
 
 ZERO = constant(0, 1)
-NO_BIT = Value(BitVecVal(0, 1))
 
 
 # Functions from terms to terms. They stand here by name, since values.py makes and keeps a term by its function.
 
 def bits_and_not(a, b):
-    """The bits of the second that are not in the first."""
     return ~a & b
 
 
 def have_common_bit(a, b):
-    return a & b != 0
-
-
-def have_no_common_bit(a, b):
-    return a & b == 0
-
-
-@functools.lru_cache(None)
-def bit_if(condition):
-    """A function for the bit 1 if a condition holds, otherwise 0."""
-    return lambda *operands: If(condition(*operands), BitVecVal(1, 1), BitVecVal(0, 1))
-
-
-# A function for each bit of a byte.
-BITS = [partial(Extract, at, at) for at in range(8)]
-
-
-def sign_bit(byte):
-    return Extract(7, 7, byte)
-
-
-def number_of_bits(*bits):
-    """A number of 64 bits. The first of these is its lowest bit, and the bits above them are zero."""
-    return concat(*bits, BitVecVal(0, 64 - len(bits)))
+    """The bit 1 if some bit is set in both, otherwise 0."""
+    return If(a & b != 0, BitVecVal(1, 1), BitVecVal(0, 1))
 
 
 def saturate_word(word):
     """A signed word as an unsigned byte: 0 if it is below 0, and 255 if it is above 255."""
     return If(word < 0, BitVecVal(0, 8), If(word > 255, BitVecVal(255, 8), Extract(7, 0, word)))
-
-
-def saturate_signed(number):
-    """A signed number of 32 bits as a signed word, or the word next to it."""
-    return If(number < -32768, BitVecVal(-32768, 16), If(number > 32767, BitVecVal(32767, 16), Extract(15, 0, number)))
-
-
-def multiply_and_add(a, b):
-    """Of two words the sum of the products of their bytes, of which those of the second have a sign."""
-    lows, highs = (ZeroExt(24, Extract(at + 7, at, a)) * SignExt(24, Extract(at + 7, at, b)) for at in (0, 8))
-    return saturate_signed(lows + highs)
 
 
 def chosen(control, *lanes):
@@ -77,10 +40,7 @@ def chosen(control, *lanes):
 
 def shuffle_byte(control, *lane):
     """The one of 16 bytes that the lowest four bits of a control byte name, or 0 if its highest bit is set."""
-    found = lane[0]
-    for at in range(16):
-        found = If(control & 15 == at, lane[at], found)
-    return If(control < 0, BitVecVal(0, 8), found)
+    return If(control < 0, BitVecVal(0, 8), chosen(control, *lane))
 
 
 def ternary_logic(number, a, b, c):
@@ -103,10 +63,6 @@ def never(*_):
     return BoolVal(False)
 
 
-def is_zero(term):
-    return term == 0
-
-
 def is_negative(term):
     return term < 0
 
@@ -117,14 +73,6 @@ def are_all_zero(*terms):
 
 def are_all_one(*terms):
     return And(*[it == 1 for it in terms])
-
-
-def carry_of_sum(a, b):
-    return ULT(a + b, a)
-
-
-def overflow_of_sum(a, b):
-    return (~(a ^ b) & (a ^ (a + b))) < 0
 
 
 def add_with_carry(a, b, carry):
@@ -140,113 +88,60 @@ def overflow_with_carry(a, b, carry):
     return (~(a ^ b) & (a ^ add_with_carry(a, b, carry))) < 0
 
 
-def is_division(high, divisor):
-    """Whether a division does not trap: if the upper half of what is divided is zero, the quotient has room."""
-    return And(high == 0, divisor != 0)
-
-
-def overflow_of_difference(a, b):
-    return ((a ^ b) & (a ^ (a - b))) < 0
-
-
-# Functions of flags.
-
-def is_less_or_equal(zero, sign, overflow):
-    return Or(zero, Xor(sign, overflow))
-
-
-# The result, the carry flag and the overflow flag of two operands.
+# The result, the carry flag and the overflow flag of two operands, and of the carry flag for `adc`.
 ARITHMETIC = {
-    "add": (operator.add, carry_of_sum, overflow_of_sum), "sub": (operator.sub, ULT, overflow_of_difference),
+    "add": (operator.add, lambda a, b: ULT(a + b, a), lambda a, b: (~(a ^ b) & (a ^ (a + b))) < 0),
+    "sub": (operator.sub, ULT, lambda a, b: ((a ^ b) & (a ^ (a - b))) < 0),
     "and": (operator.and_, never, never), "andn": (bits_and_not, never, never),
     "or": (operator.or_, never, never), "xor": (operator.xor, never, never),
+    "adc": (add_with_carry, carry_with_carry, overflow_with_carry),
 }
-SHIFTS = {"shl": operator.lshift, "shr": LShR, "sar": operator.rshift}
 # Each condition as a function of flags: c for carry, z for zero, s for sign, o for overflow.
 CONDITIONS = {"b": (And, "c"), "e": (And, "z"), "be": (Or, "cz"), "s": (And, "s"), "l": (Xor, "so"),
-              "le": (is_less_or_equal, "zso")}
+              "le": (lambda zero, sign, overflow: Or(zero, Xor(sign, overflow)), "zso")}
 OPPOSITES = {"ae": "b", "ne": "e", "a": "be", "ns": "s", "ge": "l", "g": "le"}
 EACH = *CONDITIONS, *OPPOSITES
-# Instructions that combine two vectors lane by lane: the bytes of a lane, and the function.
+# For each condition the one that holds if it does not.
+OPPOSITE = OPPOSITES | {other: it for it, other in OPPOSITES.items()}
+# For two vectors, lane by lane: the bytes of a lane, and the function.
 LANES = {
     "paddb": (1, operator.add), "psubb": (1, operator.sub), "paddw": (2, operator.add), "pmullw": (2, operator.mul),
     "paddusb": (1, lambda a, b: If(ULT(a + b, a), BitVecVal(255, 8), a + b)),
     "psubusb": (1, lambda a, b: If(ULT(a, b), BitVecVal(0, 8), a - b)),
     "pminub": (1, lambda a, b: If(ULT(a, b), a, b)), "pmaxub": (1, lambda a, b: If(ULT(a, b), b, a)),
     "por": (1, operator.or_), "pand": (1, operator.and_), "pxor": (1, operator.xor), "xorps": (1, operator.xor),
-    "pmaddubsw": (2, multiply_and_add),
-    "pcmpeqb": (1, lambda a, b: If(a == b, BitVecVal(255, 8), BitVecVal(0, 8))),
-    "pcmpgtb": (1, lambda a, b: If(a > b, BitVecVal(255, 8), BitVecVal(0, 8))),
 }
 # AVX-512 has a name for each size of a lane that a mask would be for. Without a mask they do the same.
 LANES |= {name + size: LANES[name] for name in ("pand", "por", "pxor") for size in "dq"}
-# Comparisons of two vectors whose result is a mask: the bytes of a lane, and when its bit is set.
-MASKS = {f"ptestm{size}": (1 << at, have_common_bit) for at, size in enumerate("bwdq")}
-MASKS |= {f"ptestnm{size}": (1 << at, have_no_common_bit) for at, size in enumerate("bwdq")}
-SIGNED_ORDER = operator.lt, operator.le, operator.ge, operator.gt
-MASKS |= {f"pcmp{name}{sign}b": (1, function) for sign, each in (("", SIGNED_ORDER), ("u", (ULT, ULE, UGE, UGT)))
-          for name, function in zip(("lt", "le", "nlt", "nle"), each)}
-MASKS |= dict.fromkeys(("pcmpeqb", "pcmpequb"), (1, operator.eq)) | {"pcmpgtb": (1, operator.gt)}
-MASKS |= dict.fromkeys(("pcmpneqb", "pcmpnequb"), (1, operator.ne))
-# Instructions that shift each lane of a vector: the bytes of a lane, and the function.
-LANE_SHIFTS = {"psllw": (2, operator.lshift), "psrlw": (2, LShR)}
 
 
 # Lists of bytes. Each byte is a Value, and the lowest byte comes first.
 
 def lanes_of(values, size):
-    """The lanes of so many bytes."""
     return [values[at:at + size] for at in range(0, len(values), size)]
 
 
 def spread(values):
-    """The bytes of values one after the other."""
     return [byte for value in values for byte in bytes_of(value)]
 
 
 # Instructions that write their first operand. Each function returns the bytes that are written.
-
-def move(step):
-    return step.bytes(1, step.size(0))
-
 
 def move_low(size, step):
     """movd and movq: in a vector, the bytes above become zero."""
     return step.bytes(1, size) + [ZERO] * (16 - size if step.vector(0) else 0)
 
 
-def extend_zero(step):
-    """movzx."""
-    return step.bytes(1, step.size(1)) + [ZERO] * (step.size(0) - step.size(1))
-
-
 def extend_sign(step):
-    """movsx and movsxd."""
     return bytes_of(apply(SIGNED[step.size(0) - step.size(1)], step.get(1)))
-
-
-def load_address(step):
-    """lea."""
-    return bytes_of(step.address(1))[:step.size(0)]
 
 
 def broadcast(size, step):
     return step.bytes(1, size) * (step.width // size)
 
 
-def narrow(step):
-    """pmovwb: the lower byte of each word."""
-    return step.bytes(1, step.size(1))[::2]
-
-
-def signs_to_register(step):
-    """pmovmskb: puts the highest bit of each byte into a register."""
-    return bytes_of(apply(number_of_bits, *[apply(sign_bit, it) for it in step.bytes(1, step.size(1))]))[:4]
-
-
 def lanewise(size, function, step):
-    first, second = step.sources()
-    both = zip(lanes_of(first, size), lanes_of(second, size))
+    both = zip(*[lanes_of(it, size) for it in step.sources()])
     return spread([apply(function, joined(a), joined(b)) for a, b in both])
 
 
@@ -257,22 +152,13 @@ def shift_lanes(size, function, step):
 
 def halfwise(function, step):
     """Applies a function to each lane of 16 bytes of two vectors."""
-    first, second = step.sources()
-    both = zip(lanes_of(first, 16), lanes_of(second, 16))
+    both = zip(*[lanes_of(it, 16) for it in step.sources()])
     return [it for a, b in both for it in function(a, b)]
 
 
 def shuffle_bytes(values, controls):
-    for it in controls:
-        known = it.number
-        if known is None:
-            yield apply(shuffle_byte, it, *values)
-        else:
-            yield ZERO if known & 128 else values[known & 15]
-
-
-def pack(a, b):
-    return [apply(saturate_word, joined(it)) for it in lanes_of(a + b, 2)]
+    return [apply(shuffle_byte, it, *values) if it.number is None else
+            ZERO if it.number & 128 else values[it.number & 15] for it in controls]
 
 
 def unpack(size, begin, a, b):
@@ -290,14 +176,11 @@ def shuffle_lanes(size, step):
         yield from [byte for lane in chosen for byte in lane] + it[4 * size:]
 
 
-def choose_half(step, number):
-    halves = lanes_of(step.bytes(1, 32) + step.bytes(2, 32), 16)
-    return [ZERO] * 16 if number & 8 else halves[number & 3]
-
-
 def choose_halves(step):
-    """perm2i128: four bits of a number choose each half."""
-    return choose_half(step, step.number(3)) + choose_half(step, step.number(3) >> 4)
+    """perm2i128: two bits of a number choose each half, or another bit makes it zero."""
+    halves = lanes_of(step.bytes(1, 32) + step.bytes(2, 32), 16)
+    return [byte for at in (0, 4) for byte in ([ZERO] * 16 if step.number(3) >> at & 8 else
+                                               halves[step.number(3) >> at & 3])]
 
 
 def extract(size, step):
@@ -321,16 +204,14 @@ def blend(step):
 
 def combine_three(step):
     """pternlogq: the vector that is written is also the first that is read."""
-    number = constant(step.number(3), 1)
-    vectors = [step.bytes(at, step.width) for at in range(3)]
+    number, vectors = constant(step.number(3), 1), [step.bytes(at, step.width) for at in range(3)]
     return [apply(ternary_logic, number, *it) for it in zip(*vectors)]
 
 
-def choose_lanes(size, controls, first, step):
-    """vperm: lanes of so many bytes out of a vector, or out of two, whose first is the operand at the place `first`.
-    The lowest bits of the lanes of the operand at the place `controls` name them."""
-    vectors = [step.bytes(2, step.width)] if first is None else [step.bytes(it, step.width) for it in (first, 2)]
-    lanes = lanes_of(sum(vectors, []), size)
+def choose_lanes(size, controls, vectors, step):
+    """vperm: lanes of so many bytes out of the operands at the places `vectors`. The lowest bits of the lanes of the
+    operand at the place `controls` name them."""
+    lanes = lanes_of([byte for at in vectors for byte in step.bytes(at, step.width)], size)
     for it in map(joined, lanes_of(step.bytes(controls, step.width), size)):
         if it.number is None:
             yield from bytes_of(apply(chosen, it, *map(joined, lanes)))
@@ -338,94 +219,58 @@ def choose_lanes(size, controls, first, step):
             yield from lanes[it.number % len(lanes)]
 
 
-def permute(size, step):
-    """permq by a number, or by a vector as the others."""
-    return shuffle_lanes(size, step) if len(step.operands) == 3 and step.operands[2].number is not None else \
-        permute_vector(size, step)
-
-
-def permute_vector(size, step):
-    """The lanes of the last vector that those of the second one name."""
-    return choose_lanes(size, 1, None, step)
-
-
 def choose_quarters(step):
     """shufi64x2: lanes of 16 bytes, the lower half from one vector and the upper half from another one."""
-    sources = [lanes_of(step.bytes(it, step.width), 16) for it in (1, 2)]
-    count = len(sources[0])
-    bits = count.bit_length() - 1
-    for at in range(count):
-        yield from sources[2 * at // count][step.number(3) >> bits * at & count - 1]
+    first, second = (lanes_of(step.bytes(it, step.width), 16) for it in (1, 2))
+    half = bits = len(first) // 2
+    for at, lanes in enumerate(half * [first] + half * [second]):
+        yield from lanes[step.number(3) >> bits * at & len(lanes) - 1]
 
 
 # Other instructions, which do all that they do to the state themselves.
 
 def write_result(function, step):
-    """Writes what one of the functions above returns."""
     step.write(list(function(step)))
+
+
+def set_with_flags(step, value, carry, overflow, is_kept=True):
+    """Sets the flags, of which those for zero and the sign follow from the result, and writes it if it is kept."""
+    step.state.flags.update(z=(are_all_zero, value), s=(is_negative, value), c=carry, o=overflow)
+    if is_kept:
+        step.set(value)
 
 
 def arithmetic(name, step, is_kept=True, counts=False, negates=False):
     """Sets the flags. `cmp` and `test` do not keep the result. `inc` and `dec` count by one and leave the carry. `neg`
     subtracts from zero."""
     result, carry, overflow = ARITHMETIC[name]
-    first = 1 if name == "andn" else 0
+    first = int(name == "andn")
     a = constant(0, step.size(0)) if negates else step.get(first)
     b = constant(1, step.size(0)) if counts else step.get(0 if negates else first + 1)
-    value, flags = apply(result, a, b), step.state.flags
-    flags.update(z=(is_zero, value), s=(is_negative, value), o=(overflow, a, b))
-    flags["c"] = flags["c"] if counts else (carry, a, b)
-    if is_kept:
-        step.set(value)
-
-
-def complement(step):
-    """not. It leaves the flags."""
-    step.set(apply(operator.inv, step.get(0)))
-
-
-def extend_rax(size, step):
-    """cwde and cdqe: the lower half of eax or rax with its sign."""
-    low = joined(bytes_of(step.state.registers["rax"])[:size])
-    step.write_register("eax" if size == 2 else "rax", bytes_of(apply(SIGNED[size], low)))
-
-
-def add_carry(step):
-    """adc"""
-    a, b, carry, flags = step.get(0), step.get(1), apply(*step.state.flags["c"]), step.state.flags
-    value = apply(add_with_carry, a, b, carry)
-    flags.update(z=(is_zero, value), s=(is_negative, value))
-    flags.update(c=(carry_with_carry, a, b, carry), o=(overflow_with_carry, a, b, carry))
-    step.set(value)
+    read = (a, b, apply(*step.state.flags["c"])) if name == "adc" else (a, b)
+    said = step.state.flags["c"] if counts else (carry, *read)
+    set_with_flags(step, apply(result, *read), said, (overflow, *read), is_kept)
 
 
 def multiply(step):
-    """imul of the first two operands or of the last two. Its flags are not modelled."""
-    first, second = (0, 1) if len(step.operands) == 2 else (1, 2)
-    value = apply(operator.mul, step.get(first), step.get(second))
+    """imul. Its flags are not modelled."""
+    step.set(apply(operator.mul, step.get(0), step.get(1)))
     step.state.flags.update(dict.fromkeys("czso"))
-    step.set(value)
 
 
 def divide(step):
-    """div: a number in rdx and rax, or in edx and eax, is divided by an operand. All of them must be public."""
-    size = step.size(0)
+    """div: a number in rdx and rax, or in edx and eax, is divided by an operand. All of them must be public, and the
+    upper half of the number must be zero, so that the quotient has room."""
+    size, divisor, is_shown = step.size(0), step.get(0), partial(step.machine.is_shown, step.state)
     low, high = (joined(bytes_of(step.state.registers[it])[:size]) for it in ("rax", "rdx"))
-    divisor = step.get(0)
-    allowed = apply(is_division, high, divisor)
-    if low.of or high.of or divisor.of or not step.machine.is_shown(step.state, allowed.term):
+    if low.of or high.of or divisor.of or not is_shown(And(high.term == 0, divisor.term != 0)):
         raise Refused("a division that may trap")
-    quotient, rest = apply(UDiv, low, divisor), apply(URem, low, divisor)
     # Z3 is slow with divisions by what is not known.
-    if step.machine.is_shown(step.state, apply(ULT, low, divisor).term):
-        quotient, rest = constant(0, size), low
+    is_less = is_shown(ULT(low.term, divisor.term))
+    quotient, rest = (constant(0, size), low) if is_less else (apply(it, low, divisor) for it in (UDiv, URem))
     step.write_register("rax" if size == 8 else "eax", bytes_of(quotient))
     step.write_register("rdx" if size == 8 else "edx", bytes_of(rest))
     step.state.flags.update(dict.fromkeys("czso"))
-
-
-def push(step):
-    step.push(step.get(0) if step.operands[0].number is None else constant(step.number(0), 8))
 
 
 def leave(step):
@@ -436,11 +281,8 @@ def leave(step):
 def keep_low_bits(step):
     """bzhi: keeps as many of the lowest bits as a byte says, whose value must be known."""
     count, value, bits = step.bytes(2, 1)[0].number, step.get(1), 8 * step.size(0)
-    if count < bits:
-        value = apply(operator.and_, value, constant(2**count - 1, bits // 8))
-    is_over = partial(BoolVal, count >= bits)
-    step.state.flags.update(z=(is_zero, value), s=(is_negative, value), c=(is_over,), o=(never,))
-    step.set(value)
+    value = apply(operator.and_, value, constant(2**min(count, bits) - 1, bits // 8))
+    set_with_flags(step, value, (partial(BoolVal, count >= bits),), (never,))
 
 
 def shift(function, step):
@@ -448,13 +290,9 @@ def shift(function, step):
     count = step.number(1) & (63 if step.size(0) == 8 else 31)
     value = apply(function, step.get(0), constant(count, step.size(0)))
     if count:
-        step.state.flags.update(z=(is_zero, value), s=(is_negative, value), c=None, o=None)
-    step.set(value)
-
-
-def opposite(name):
-    """The condition that holds if another one does not."""
-    return OPPOSITES.get(name) or next(it for it, other in OPPOSITES.items() if other == name)
+        set_with_flags(step, value, None, None)
+    else:
+        step.set(value)
 
 
 def condition(flags, name):
@@ -467,16 +305,10 @@ def condition(flags, name):
     return apply(function, *[apply(*flags[it]) for it in needed])
 
 
-def set_if(name, step):
-    """setCC: the byte 1 if the condition holds, otherwise 0."""
-    holds = step.condition(name)
-    step.set(apply(If, holds, constant(1, 1), ZERO))
-
-
-def move_if(name, step):
-    """cmovCC: the second operand if the condition holds, otherwise the first."""
-    holds = step.condition(name)
-    step.set(apply(If, holds, step.get(1), step.get(0)))
+def choose_if(name, step):
+    """cmovCC: the second operand if the condition holds, otherwise the first. setCC: the byte 1 or 0."""
+    holds, is_move = step.condition(name), len(step.operands) == 2
+    step.set(apply(If, holds, *((step.get(1), step.get(0)) if is_move else (constant(1, 1), ZERO))))
 
 
 def zero_upper(step):
@@ -484,89 +316,66 @@ def zero_upper(step):
         it[16:] = [ZERO] * (len(it) - 16)
 
 
-def compare_lanes(size, function, step):
-    """Each bit of the mask says whether a condition holds for two lanes of so many bytes. Bits above are zero."""
-    first, second = step.bytes(1, step.width), step.bytes(2, step.width)
-    both = zip(lanes_of(first, size), lanes_of(second, size))
-    bits = [apply(bit_if(function), joined(a), joined(b)) for a, b in both]
-    step.state.masks[step.operands[0].register] = bits + [NO_BIT] * (64 - len(bits))
+def test_lanes(step):
+    """ptestmd: each bit of the mask says whether two lanes have a bit in common. The bits above are zero."""
+    both = zip(*[lanes_of(step.bytes(at, step.width), 4) for at in (1, 2)])
+    bits = [apply(have_common_bit, joined(a), joined(b)) for a, b in both]
+    step.state.masks[step.operands[0].register] = bits + [Value(BitVecVal(0, 1))] * (64 - len(bits))
 
 
-def compare(name, step):
-    """pcmpeqb and pcmpgtb write a vector or a mask."""
-    if step.vector(0):
-        write_result(WRITTEN[name], step)
-    else:
-        compare_lanes(*MASKS[name], step)
-
-
-def move_mask(size, step):
-    """kmov: the lowest bits of a mask, of which there are so many bytes."""
-    to, source = (it.register or "" for it in step.operands)
-    bits = step.state.masks[source][:8 * size] if source[:1] == "k" else \
-        [apply(BITS[at % 8], byte) for byte in step.bytes(1, size) for at in range(8)]
-    if to[:1] == "k":
-        step.state.masks[to] = bits + [NO_BIT] * (64 - len(bits))
-    else:
-        step.write(bytes_of(apply(concat, *bits, *[NO_BIT] * (64 - len(bits))))[:max(size, step.size(0))])
-
-
-def test_masks(count, step):
-    """kortest: zero if the first bits of two masks have none set, carry if each bit is set in one of them."""
-    first, second = (step.state.masks[step.operands[at].register][:count] for at in (0, 1))
-    bits = [apply(operator.or_, a, b) for a, b in zip(first, second)]
+def test_masks(step):
+    """kortestw: zero if the first bits of two masks have none set, carry if each bit is set in one of them."""
+    bits = [apply(operator.or_, *both) for both in zip(*[step.state.masks[it.register][:16] for it in step.operands])]
     step.state.flags.update(z=(are_all_zero, *bits), c=(are_all_one, *bits), s=(never,), o=(never,))
 
 
 def test_bits(step):
     """ptest: zero if the first `and` the second is 0, carry if `not` the first `and` the second is 0."""
     both = list(zip(step.bytes(0, step.width), step.bytes(1, step.width)))
-    common = [apply(operator.and_, a, b) for a, b in both]
-    only_second = [apply(bits_and_not, a, b) for a, b in both]
+    common, only_second = ([apply(it, a, b) for a, b in both] for it in (operator.and_, bits_and_not))
     step.state.flags.update(z=(are_all_zero, *common), c=(are_all_zero, *only_second), s=(never,), o=(never,))
 
 
 # Instructions that differ by the size of their lanes: their names, the function, and the size of each.
 SIZED = (
     ("pinsrb pinsrw pinsrd inserti128 inserti64x4", insert, (1, 2, 4, 16, 32)),
-    ("pextrb pextrw pextrd pextrq extracti128 extracti64x4", extract, (1, 2, 4, 8, 16, 32)),
-    ("pbroadcastb pbroadcastw pbroadcastd pbroadcastq broadcasti128", broadcast, (1, 2, 4, 8, 16)),
-    ("broadcasti32x4 broadcasti64x2 broadcasti64x4 broadcasti32x8", broadcast, (16, 16, 32, 32)),
-    ("movd movq", move_low, (4, 8)), ("pshuflw pshufd", shuffle_lanes, (2, 4)),
-    ("permb permw", permute_vector, (1, 2)), ("permq", permute, (8,)),
+    ("pextrb pextrw pextrd pextrq extracti128", extract, (1, 2, 4, 8, 16)),
+    ("pbroadcastb pbroadcastw pbroadcastd pbroadcastq broadcasti128 broadcasti32x4", broadcast, (1, 2, 4, 8, 16, 16)),
+    ("movd movq", move_low, (4, 8)), ("pshuflw pshufd permq", shuffle_lanes, (2, 4, 8)),
 )
-# vperm of two vectors: where the control is, and the first of them.
-TWO = {f"perm{name}{size}": partial(choose_lanes, bytes_, *places) for name, places in (("i2", (0, 1)), ("t2", (1, 0)))
-       for size, bytes_ in (("b", 1), ("q", 8))}
-
-HALVES = {"pshufb": shuffle_bytes, "packuswb": pack, "punpcklbw": partial(unpack, 1, 0),
-          "punpckhbw": partial(unpack, 1, 8), "punpcklqdq": partial(unpack, 8, 0)}
-MOVES = "mov movabs movdqa movdqa32 movdqa64 movdqu movdqu8 movdqu32 movdqu64 movups movaps".split()
+# For choose_lanes: the size of a lane, where the control is, and the vectors.
+CHOSEN = {"permb": (1, 1, (2,)), "permi2b": (1, 0, (1, 2)), "permi2q": (8, 0, (1, 2)), "permt2b": (1, 1, (0, 2)),
+          "permt2q": (8, 1, (0, 2))}
+HALVES = {"pshufb": shuffle_bytes, "punpcklbw": partial(unpack, 1, 0), "punpckhbw": partial(unpack, 1, 8),
+          "punpcklqdq": partial(unpack, 8, 0),
+          "packuswb": lambda a, b: [apply(saturate_word, joined(it)) for it in lanes_of(a + b, 2)]}
 WRITTEN = {
-    **{name: move for name in MOVES},
-    "movzx": extend_zero, "movsx": extend_sign, "movsxd": extend_sign,
-    "pop": lambda step: bytes_of(step.pop()), "lea": load_address, "perm2i128": choose_halves,
-    "pmovwb": narrow, "pmovmskb": signs_to_register, "pternlogd": combine_three, "pternlogq": combine_three,
-    "pblendd": blend, "shufi64x2": choose_quarters, "shufi32x4": choose_quarters, **TWO,
-    **{name: partial(lanewise, size, function) for name, (size, function) in LANES.items()},
-    **{name: partial(shift_lanes, size, function) for name, (size, function) in LANE_SHIFTS.items()},
+    **dict.fromkeys("mov movabs movdqa movdqa64 movdqu movdqu64 movups movaps".split(),
+                    lambda step: step.bytes(1, step.size(0))),
+    "movzx": lambda step: step.bytes(1, step.size(1)) + [ZERO] * (step.size(0) - step.size(1)),
+    "movsx": extend_sign, "movsxd": extend_sign, "pmovwb": lambda step: step.bytes(1, step.size(1))[::2],
+    "lea": lambda step: bytes_of(step.address(1))[:step.size(0)], "pop": lambda step: bytes_of(step.pop()),
+    "perm2i128": choose_halves, "pternlogd": combine_three,
+    "pternlogq": combine_three, "pblendd": blend, "shufi64x2": choose_quarters,
+    "psllw": partial(shift_lanes, 2, operator.lshift), "psrlw": partial(shift_lanes, 2, LShR),
+    **{name: partial(choose_lanes, *it) for name, it in CHOSEN.items()},
+    **{name: partial(lanewise, *it) for name, it in LANES.items()},
     **{name: partial(halfwise, function) for name, function in HALVES.items()},
     **{name: partial(function, size) for names, function, sizes in SIZED for name, size in zip(names.split(), sizes)},
 }
 TABLE = {
     **{name: partial(write_result, function) for name, function in WRITTEN.items()},
-    "nop": lambda step: None, "endbr64": lambda step: None, "push": push,
-    "zeroupper": zero_upper,
+    **dict.fromkeys(("nop", "endbr64"), lambda step: None), "leave": leave, "zeroupper": zero_upper,
     **{name: partial(arithmetic, name) for name in ARITHMETIC},
     "cmp": partial(arithmetic, "sub", is_kept=False), "test": partial(arithmetic, "and", is_kept=False),
     "inc": partial(arithmetic, "add", counts=True), "dec": partial(arithmetic, "sub", counts=True),
-    "adc": add_carry, "neg": partial(arithmetic, "sub", negates=True), "imul": multiply, "div": divide,
-    "bzhi": keep_low_bits, "leave": leave,
-    **{name: partial(shift, function) for name, function in SHIFTS.items()},
-    **{"set" + it: partial(set_if, it) for it in EACH}, **{"cmov" + it: partial(move_if, it) for it in EACH},
-    "not": complement, "cdqe": partial(extend_rax, 4), "cwde": partial(extend_rax, 2), "ptest": test_bits,
-    **{name: partial(compare_lanes, *it) for name, it in MASKS.items()},
-    **{name: partial(compare, name) for name in ("pcmpeqb", "pcmpgtb")},
-    **{f"kortest{it}": partial(test_masks, 8 << at) for at, it in enumerate("bwdq")},
-    **{f"kmov{it}": partial(move_mask, 1 << at) for at, it in enumerate("bwdq")},
+    "neg": partial(arithmetic, "sub", negates=True), "not": lambda step: step.set(apply(operator.inv, step.get(0))),
+    "imul": multiply, "div": divide, "bzhi": keep_low_bits,
+    "cdqe": lambda step: step.write_register("rax", bytes_of(
+        apply(SIGNED[4], joined(bytes_of(step.state.registers["rax"])[:4])))),
+    "shl": partial(shift, operator.lshift), "shr": partial(shift, LShR), "sar": partial(shift, operator.rshift),
+    **{begin + it: partial(choose_if, it) for begin in ("set", "cmov") for it in EACH},
+    "ptest": test_bits, "ptestmd": test_lanes, "kortestw": test_masks, 
+    "push": lambda step: step.push(constant(step.number(0), 8) if step.operands[0].number is not None else step.get(0)),
+    "kmovq": lambda step: step.set(apply(concat, *step.state.masks[step.operands[1].register])),
 }

@@ -56,10 +56,8 @@ class Loop:
 
     def __init__(self, machine, before, first, second):
         self.machine, self.turn = machine, z3.BitVec(f"turn {before.turns}", 64)
-        # The places whose values are unknown, and those whose values change with the turn.
-        self.unknown, self.moving = set(), set()
-        # The state before the loop, and the states in which it was left.
-        self.before, self.exits = before.copy(), []
+        # The places whose values are unknown, and those that change with the turn; the states in which it was left.
+        self.unknown, self.moving, self.exits, self.before = set(), set(), [], before.copy()
         self.state = it = before.copy()
         it.turns += 1
         it.loops[before.at] = self
@@ -127,7 +125,11 @@ class Loop:
             raise Refused("a loop leaves bytes of the destination out")
         if not self.machine.is_shown(after, self.at(self.state.facts[-1].term, self.turn + 1)):
             raise Refused("a loop may have more turns than were counted")
-        self.count(after)
+        # How many branches on valid digits a turn has. Only a longer source may have some.
+        tests = 0 if after.refused else after.tests - self.state.tests
+        if tests and not self.machine.is_shown(after, IS_LONG):
+            raise Refused("a loop branches on the bytes of a short source")
+        self.machine.turns |= {(tests, self.digits)} if tests else set()
 
     def is_next(self, place, value, after):
         """Whether a place has the value that it has before the next turn."""
@@ -140,14 +142,6 @@ class Loop:
         """Whether some spans of the general state, for the next turn, are within others."""
         spans = [(self.at(start, self.turn + 1), self.at(end, self.turn + 1)) for start, end in spans]
         return self.machine.is_shown(after, z3.Implies(is_in(spans, INDEX), is_in(others, INDEX)))
-
-    def count(self, after):
-        """Notes how many branches on valid digits a turn has. Only a longer source may have some."""
-        tests = 0 if after.refused else after.tests - self.state.tests
-        if tests and not self.machine.is_shown(after, IS_LONG):
-            raise Refused("a loop branches on the bytes of a short source")
-        if tests:
-            self.machine.turns.add((tests, self.digits))
 
 
 def forget(machine, state):

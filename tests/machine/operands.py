@@ -50,7 +50,6 @@ class Step:
         return Value(z3.BoolVal(holds))
 
     def address(self, at):
-        """The address of an operand in memory."""
         base, index, scale, distance = self.operands[at].address
         if base == "rip":
             return self.machine.image.address(self.instruction.end + distance)
@@ -58,7 +57,6 @@ class Step:
         return apply(address_of, base, index, constant(scale, 8), constant(distance, 8))
 
     def bytes(self, at, count):
-        """The first bytes of an operand."""
         it = self.operands[at]
         if it.number is not None:
             return bytes_of(constant(it.number, count))
@@ -96,8 +94,7 @@ class Step:
         self.write(bytes_of(value))
 
     def sources(self):
-        """The two vectors that an instruction combines. With AVX they come after the one that is written. With SSE the
-        first of them is written."""
+        """The two vectors that are combined. With AVX they come after the one that is written. With SSE this is one."""
         return self.bytes(self.is_vex, self.width), self.bytes(1 + self.is_vex, self.width)
 
     def is_aligned(self, at, count):

@@ -2,19 +2,16 @@
 state, which says what holds before turn k, and the states in which the loop was left, from which the exploration went
 on. It shows by an own solver that the state before the loop is the general state for k = 0, that each path through the
 loop's instructions from the general state comes back as the one for k + 1, and that each path that leaves the loop does
-so as a state of the record. It has the effect of instructions from the explorer, but neither how that one guesses, nor
-how it forgets and joins, nor how it compares states."""
+so as a state of the record. It has from the explorer the effect of instructions and what a state says as terms, but
+neither how that one guesses, nor how it forgets and joins, nor how it compares states."""
 import z3
 
 from . import Refused
 from .execution import Machine
+from .state import INDEX, is_in
 from .values import unknown
 
-# The paths of a loop's body have fewer instructions in all.
-MOST_STEPS = 5000
-INDEX, NO_TURN = z3.BitVec("any index", 64), z3.BitVecVal(0, 64)
-
-
+NO_TURN = z3.BitVecVal(0, 64)
 # What was shown, by the numbers of terms. A number stays valid while its term is kept, so the terms are kept too.
 SHOWN = {}
 
@@ -29,51 +26,34 @@ def holds(known, term):
     return key not in SHOWN or SHOWN[key][0]
 
 
-def within(spans, index):
-    return z3.Or(*[z3.And(z3.ULE(first, index), z3.ULT(index, end)) for first, end in spans])
-
-
 def are_within(known, spans, others):
     """Whether each index of some spans is one of others."""
     are_others = len(spans) <= len(others) and all(a.eq(b) for one, two in zip(spans, others) for a, b in zip(one, two))
-    return are_others or holds(known, z3.Implies(within(spans, INDEX), within(others, INDEX)))
+    return are_others or holds(known, z3.Implies(is_in(spans, INDEX), is_in(others, INDEX)))
 
 
 class Body(Machine):
-    """Executes the body of a loop from its general state, up to its head or to where it is left."""
-
-    def __init__(self, explorer, loop):
+    def __init__(self, explorer):
         self.__dict__.update(explorer.__dict__)
-        self.left, self.loop, self.executed, self.is_fixed = [], loop, set(), False
+        self.executed, self.is_fixed = set(), False
 
-    def forgets(self, state):
+    def forgets(self, _):
         """Nothing is forgotten in one turn."""
-
-    def paths(self):
-        """The states at the ends of all paths."""
-        head, last = self.loop.state.at, self.image.loops[self.loop.state.at]
-        state, self.left, steps = self.loop.state.copy(), [], 0
-        # The record is not to be changed by what is executed here.
-        state.loops = {}
-        self.advances(state)
-        self.left.append(state)
-        while self.left:
-            state = self.left.pop()
-            while head < state.at <= last and steps < MOST_STEPS:
-                steps += self.advances(state)
-            self.settle(state)
-            yield state
 
 
 class Replay:
     """The replay of a loop. To make it is to check it."""
 
     def __init__(self, explorer, loop):
-        self.body, self.loop, self.turn, self.free = Body(explorer, loop), loop, loop.turn, {}
+        self.body, self.loop, self.turn, self.free = Body(explorer), loop, loop.turn, {}
         try:
             self.is_fresh()
             self.is_as(loop.before, NO_TURN)
-            for state in self.body.paths():
+            general = loop.state.copy()
+            # The record is not to be changed by what is executed here.
+            general.loops = {}
+            for state in self.body.through(general):
+                self.body.settle(state)
                 if state.at == loop.state.at:
                     self.is_as(state, self.turn + 1)
                 elif not any(self.stands_for(it, state) for it in loop.exits if it.at == state.at):
@@ -85,8 +65,7 @@ class Replay:
         """Refuses a record in which the turn or what is unknown occurs before the loop, or in which the general state
         says something that is not compared."""
         before, general = self.loop.before, self.loop.state
-        values, others = general.values(), before.values()
-        names = set()
+        values, others, names = general.values(), before.values(), set()
         for place in self.loop.unknown:
             value = unknown(f"{place} in {self.turn}", values[place].term.size() // 8)
             names |= {*value.of}
@@ -106,17 +85,9 @@ class Replay:
     def moved(self, spans, turn):
         return [(self.at(first, turn), self.at(end, turn)) for first, end in spans]
 
-    def known(self, state):
-        """What a state says, as terms: of its facts, and of a byte that each failed test has found to be invalid."""
-        terms = [it.term for it in (*self.body.facts, *state.facts)]
-        for number, spans in enumerate(state.refused):
-            index = z3.BitVec(f"invalid {number}", 64)
-            terms += [within(spans, index), z3.Not(within(state.valid, index))]
-        return terms
-
     def is_as(self, state, turn):
         """Refuses a state that is not the general state before a turn."""
-        general, known, values = self.loop.state, self.known(state), state.values()
+        general, known, values = self.loop.state, self.body.known(state), state.values()
         for place, value in general.values().items():
             if place in self.loop.unknown:
                 continue
@@ -135,13 +106,12 @@ class Replay:
             raise Refused("another byte is invalid")
 
     def is_next(self, known, value, other, turn):
-        """Whether a public value, for a turn, is another one."""
         is_public = not value.of and not other.of and value.term.size() == other.term.size()
         return is_public and holds(known, self.at(value.term, turn) == other.term)
 
-    def has_no_turn(self, term, number=None):
+    def has_no_turn(self, term):
         """Whether a term does not depend on the turn. The term is kept, since its number stays valid only as long."""
-        number = number or term.get_id()
+        number = term.get_id()
         if number not in self.free:
             self.free[number] = z3.substitute(term, (self.turn, self.turn + 1)).eq(term), term
         return self.free[number][0]
@@ -150,11 +120,11 @@ class Replay:
         """Whether a value does not depend on the turn, neither itself nor by the places of its bytes."""
         terms = self.body.terms
         names = {it[0] for it in value.of} & terms.keys()
-        return self.has_no_turn(value.term, value.id) and all(self.has_no_turn(terms[it], it) for it in names)
+        return self.has_no_turn(value.term) and all(self.has_no_turn(terms[it]) for it in names)
 
     def stands_for(self, explored, state):
         """Whether a state that was explored says no more than another one."""
-        known, values = self.known(state), state.values()
+        known, values = self.body.known(state), state.values()
         is_known = all(place in values and value.is_same(values[place]) for place, value in explored.values().items())
         return is_known and self.has_flags_of(explored, state) and all(holds(known, it.term) for it in explored.facts) \
             and are_within(known, explored.valid, state.valid) and bool(explored.written) == bool(state.written) \
@@ -163,7 +133,6 @@ class Replay:
 
     @staticmethod
     def has_flags_of(explored, state):
-        """Whether the flags and masks that a state has are those of another one."""
         pairs = [(flag, state.flags[name]) for name, flag in explored.flags.items() if flag]
         flags = all(other and flag[0] is other[0] and len(flag) == len(other) and
                     all(a.is_same(b) for a, b in zip(flag[1:], other[1:])) for flag, other in pairs)

@@ -25,7 +25,6 @@ BEFORE = {it[0]: unknown(it[0], 8) for it in NAMED} | {"rsp": STACK}
 VECTOR = 64
 VECTORS = [bytes_of(unknown(f"vector {it}", VECTOR)) for it in range(16)]
 
-
 # In its model all variables are 0.
 EMPTY = z3.Solver()
 EMPTY.check()
@@ -46,7 +45,6 @@ def is_in(spans, index):
 
 
 def indices(spans):
-    """The indices in spans whose ends are numbers."""
     return {at for start, end in spans for at in range(start.as_long(), end.as_long())}
 
 
@@ -86,8 +84,7 @@ class State:
         # the source was first read; whether the path has just forgotten some; the addresses that it executed, and how
         # many instructions; what its last branch on public values compared with zero, with the condition that held and
         # its name; and where calls return to.
-        self.early, self.is_general, self.passed, self.steps, self.gap = None, False, set(), 0, None
-        self.calls = ()
+        self.early, self.is_general, self.passed, self.steps, self.gap, self.calls = None, False, set(), 0, None, ()
 
     def copy(self):
         other = copy.copy(self)
@@ -97,12 +94,10 @@ class State:
         return other
 
     def values(self):
-        """The value in each place."""
         vectors = {(at, to): it for at, vector in enumerate(self.vectors) for to, it in enumerate(vector)}
         return self.registers | vectors | self.stack
 
     def put(self, values):
-        """Puts values in their places."""
         self.registers = {it: values[it] for it in self.registers}
         self.vectors = [[values[at, to] for to in range(VECTOR)] for at in range(len(self.vectors))]
         self.stack = {it: value for it, value in values.items() if type(it) is int}

@@ -32,8 +32,7 @@ IS_NO_POLICY = Value(z3.UGT(POLICY.term, hexadecimal.UPPERCASE))
 
 
 def is_valid_pointer(pointer, length):
-    """Whether a pointer to so many bytes may be passed: it is null only for no bytes, and the bytes do not go beyond
-    the last address."""
+    """Whether a pointer to so many bytes may be passed: null only for no bytes, and none beyond the last address."""
     return z3.And(z3.Or(pointer != 0, length == 0), z3.ULE(pointer, ~length))
 
 
@@ -89,7 +88,6 @@ class Shown:
         return joined([byte, unknown("above an argument", 7)]) if byte else known[word]
 
     def cases(self):
-        """The conditions that the definitions distinguish."""
         return [IS_HUGE if self.is_encoding else IS_ODD, self.is_small] if self.has_room else []
 
     def check(self, state):
@@ -98,7 +96,14 @@ class Shown:
         for case in self.machine.cases:
             states = [(it, [*known, holds]) for one, known in states for it, holds in self.machine.outcomes(one, case)]
         for it, known in states:
-            self.check_case(it, *self.expected(it, *known))
+            status, number = self.expected(it, *known)
+            is_done = status == DONE and self.has_room
+            if not (self.machine.covers(it, it.written, self.writes.term) if is_done else it.written == ()):
+                raise Refused("writes too much or too little")
+            if self.has_room or self.call == "first_invalid":
+                self.check_answer(it, status, number)
+            else:
+                self.check_bool(it, status)
 
     def expected(self, state, is_no_length=False, is_small=False):
         """The status and the number that the definitions give. If a digit is invalid, check_invalid has the number."""
@@ -109,15 +114,6 @@ class Shown:
         if is_small:
             return TOO_SMALL, self.writes
         return INVALID if state.refused else DONE, self.writes
-
-    def check_case(self, state, status, number):
-        is_done = status == DONE and self.has_room
-        if not (self.machine.covers(state, state.written, self.writes.term) if is_done else state.written == ()):
-            raise Refused("writes too much or too little")
-        if self.has_room or self.call == "first_invalid":
-            self.check_answer(state, status, number)
-        else:
-            self.check_bool(state, status)
 
     def is_equal(self, state, value, term):
         return not value.of and self.machine.is_shown(state, value.term == term)
@@ -138,8 +134,7 @@ class Shown:
             raise Refused("does not look at all digits")
 
     def check_invalid(self, state, index, byte):
-        """A call may report a byte as the first invalid one only if the path knows two things: that all bytes before it
-        are valid digits, and that it is not."""
+        """The path must know that all bytes before the reported one are valid digits, and that it is none."""
         if index.of or not self.machine.covers(state, state.valid, index.term) \
                 or not self.machine.is_one_invalid(state, index.term):
             raise Refused("reports another byte as the first invalid one")
@@ -170,8 +165,7 @@ class Shown:
             raise Refused("what is written is wrong")
 
     def side(self, state, at, index):
-        """Which of the two digits of a byte is concerned, 0 or 1, for an index in the destination and one in the
-        source."""
+        """Which digit of a byte is concerned, 0 or 1, for an index in the destination and one in the source."""
         term = at - 2 * index if self.is_encoding else index - 2 * at
         number = difference(term, ZERO.term)
         for it in range(2):
@@ -180,8 +174,7 @@ class Shown:
         raise Refused("what is written depends on other bytes")
 
     def differs(self, term, sides):
-        """Conditions that hold together only if a byte is not what the definitions give although the digits are
-        valid."""
+        """Conditions that hold together only if a byte is wrong although the digits are valid."""
         if self.is_encoding:
             return [term != hexadecimal.digits_of(X[0], self.is_upper)[sides[0]]]
         if sorted(sides) != [0, 1]:
@@ -191,15 +184,13 @@ class Shown:
 
 
 def ways_of(call):
-    """The policies and the cases of letters for which a call is shown."""
     policies = range(OTHER + 1) if "policy" in CALLS[call] else [POLICIES.get(call, 0)]
     cases = (False, True) if "upper" in CALLS[call] else (False,)
     return [(policy, is_upper) for policy in policies for is_upper in cases]
 
 
 def shown(image, build, call, most=None, least=0):
-    """Checks a call for every length: under each policy and for all numbers that are none, or for both cases of
-    letters."""
+    """Checks a call for every length, in each of its ways."""
     for at in image.calls(build, call, call not in POLICIES):
         for policy, is_upper in ways_of(call):
             yield Shown(image, at, call, policy, is_upper, most, least)

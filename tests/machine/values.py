@@ -4,6 +4,7 @@ A term has the variables byte0, byte1, and so on. Its Value says which bytes of 
 does to its first digit and what it does to its last one are the same term, which is built, simplified and proved only
 once. A value without such bytes is public: it may depend on addresses or on the room, but not on the source."""
 import functools
+import operator
 import re
 
 import z3
@@ -30,7 +31,6 @@ class Value:
 
     @property
     def number(self):
-        """The number that this is, or None if it is not known."""
         return self.term.as_long() if not self.of and z3.is_bv_value(self.term) else None
 
     def is_same(self, other):
@@ -39,7 +39,6 @@ class Value:
 
 @functools.lru_cache(None)
 def constant(number, size):
-    """A number of so many bytes."""
     return Value(z3.BitVecVal(number, 8 * size))
 
 
@@ -105,36 +104,25 @@ def joined(values):
     return apply(concat, *values) if len(values) > 1 else values[0]
 
 
-def added(a, b):
-    return a + b
-
-
 def plus(value, number):
-    """A sum with a number."""
-    return apply(added, value, constant(number, value.term.size() // 8))
+    return apply(operator.add, value, constant(number, value.term.size() // 8))
 
 
-def is_refuted(terms):
-    """Whether terms hold together in a model that answered another question. The condition that is asked for comes last
-    and is tried first."""
+def is_proved(key, conditions):
+    """Whether the conditions that a function returns can never hold together. The answer is kept by the key."""
+    if key not in ANSWERS:
+        terms = conditions()
+        ANSWERS[key] = not may_hold(terms), terms
+    return ANSWERS[key][0]
+
+
+def may_hold(terms):
+    """Whether terms hold together in a model that answered another question or in a new one, or Z3 does not know it.
+    The condition that is asked for comes last and is tried first. A new solver is faster than to use one again."""
     for at, it in enumerate(MODELS):
         if all(z3.is_true(it.eval(term, True)) for term in reversed(terms)):
             MODELS.insert(0, MODELS.pop(at))
             return True
-    return False
-
-
-def is_proved(key, conditions):
-    """Whether the conditions that a function returns can never hold together. The answer is kept by the key. Each
-    question has a new solver, which is faster than to use one again."""
-    if key not in ANSWERS:
-        terms = conditions()
-        ANSWERS[key] = not is_refuted(terms) and not has_model(terms), terms
-    return ANSWERS[key][0]
-
-
-def has_model(terms):
-    """Whether terms can hold together, or Z3 does not know it. The model is kept."""
     solver = z3.SolverFor("QF_BV")
     solver.add(*terms)
     said = solver.check()
