@@ -119,7 +119,8 @@ def rows_of(program, n):
     """The rows of a program for a length. The memory for the entries of a list grows to 4, and then doubles."""
     short = n % SHORTEST + 1
     of = {"n": n, "n2": 2 * n, "n2_1": 2 * n + 1, "n3": 3 * n, "in_lines": 2 * n + (n - 1) // 30,
-          "in_lines_1": 2 * n + (n - 1) // 30 + 1, "growths": max(n - 1, 3).bit_length() - 1, "short": short, "r": short + 5}
+          "in_lines_1": 2 * n + (n - 1) // 30 + 1, "growths": max(n - 1, 3).bit_length() - 1,
+          "short": short, "r": short + 5}
     rows = OF_LENGTH[program] + (OF_SHORT_LENGTH.get(program, []) if n <= SHORT else [])
     return [row.format(**of) for row in rows]
 

@@ -148,3 +148,9 @@ def test_definitions():
     tables = page.partition("## Names of the library")[2].partition("## Words of a contract")[0]
     told = {name for row in re.findall(r"^(`.*?) \|", tables, re.M) for name in re.findall(r"`([^`]+)`", row)}
     assert len(files) == 7 and told == taken
+
+
+def test_lines_of_scripts_and_tests():
+    """No line of a script or a test has more than 120 characters."""
+    those = [it for it in own_files() if re.match("(scripts|tests|bench)/", it) and not re.search(r"\.(md|svg)$", it)]
+    assert [it for it in those if re.search(".{121}", (TOP / it).read_text(encoding="utf-8"))] == []
