@@ -498,7 +498,7 @@ def test_change(tmp_path, row):
 
 
 # Copies of a loop that are right too: how its counter begins, how it changes in a turn, and the jump to the next turn.
-RIGHT = [("leaq -1(%r9),%r9", "decq %r9", "jns"), ("shlq $5,%r9", "subq $32,%r9; cmpq $31,%r9", "ja"),
+RIGHT = [("leaq -1(%r9),%r9", "subq $1,%r9", "jns"), ("shlq $5,%r9", "subq $32,%r9; cmpq $31,%r9", "ja"),
          ("shlq $5,%r9", "subq $32,%r9; cmpq $32,%r9", "jae"), ("negq %r9", "incq %r9", "js")]
 
 
