@@ -121,7 +121,7 @@ template <class Digits> [[nodiscard]] std::vector<unsigned char> decode(const Di
     return decode(text.data(), text.size(), by);
 }
 
-/* Does the same, but skips ASCII white space among the digits. */
+/* Decodes as `decode` does, but skips ASCII white space among the digits, and takes no pointer with a length. */
 template <class Digits> [[nodiscard]] std::vector<unsigned char> decode_spaced(const Digits &digits,
                                                                                policy by = policy::either_case) {
     const std::string_view text = digits_of(digits);
