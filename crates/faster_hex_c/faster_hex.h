@@ -30,8 +30,8 @@
  * - gcc and clang warn if a result that says whether a call failed is not used.
  *
  * What is known: the source is proved to return and write what this header says, for lengths below 2^63. The assembly
- * compiled from it is tested, and on Linux from x86-64-v2 on most of it was checked against a definition of hex
- * (docs/security.md). Where there is no assembly, plain C is used, which is not proved. For keys, see faster_hex(3).
+ * compiled from it is tested, and on Linux from x86-64-v2 on most of it was also checked against a definition of hex.
+ * Where there is no assembly, plain C is used, which is not proved. For keys, see faster_hex(3).
  */
 #ifndef FASTER_HEX_H
 #define FASTER_HEX_H
