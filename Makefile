@@ -168,7 +168,7 @@ test: $(CHECKED)
 else
 test: test-c
 	$(QUICK)
-	$(call ENDED,proofs; rows; mutations; examples: these take the Rattle toolchain)
+	$(call ENDED,proofs; proved tests; mutations; examples: these take the Rattle toolchain)
 endif
 
 TRY = $(COMPILE) $(CFLAGS) -std=gnu99 -pthread -I$(C) $(OF_TESTS) -o $(OUT)/try.exe
@@ -222,7 +222,8 @@ vendor:
 
 help:
 	@sed -n '/^[^#]/q; s/^# \{0,1\}//p' Makefile
-	@echo && awk -f scripts/help.awk tests/README.md
+	@echo && sed -n '/^Find your change/,/^anything, before/p' tests/README.md | grep -v '^---' | \
+		sed 's/\*\([a-z]*\)\*/\1/g; s/[[`]//g; s/\]([^)]*)//g; s/^\(.*\) | \(.*\) | \(.*\)/- \1: \2 (\3)/' | fold -s -w 100
 
 clean:
 	rm -rf out crates/*/out

@@ -48,8 +48,7 @@ def copy(crates, to):
 def verdict(words, folder):
     """Runs a command that proves the crate in this folder. Returns the line of its verdict. If the crate is not proved,
     it ends the script."""
-    pipes = {"stdout": subprocess.PIPE, "stderr": subprocess.STDOUT, "text": True, "errors": "replace"}
-    done = subprocess.run(words, cwd=folder, **pipes)
+    done = repository.ran(words, folder)
     found = re.findall("^logic=.*", done.stdout, re.M)
     if done.returncode or not found or not found[-1].startswith("logic=proved "):
         sys.exit("\n".join([*done.stdout.splitlines()[-40:], f"{folder.name} is not proved"]))

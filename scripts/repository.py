@@ -39,9 +39,15 @@ def below(names, top=TOP):
     return found
 
 
+def ran(words, folder=TOP, stderr=subprocess.STDOUT):
+    """Runs a command to its end, and returns its status and its output."""
+    pipes = {"stdin": subprocess.DEVNULL, "stdout": subprocess.PIPE, "stderr": stderr, "errors": "replace"}
+    return subprocess.run(words, cwd=folder, **pipes)
+
+
 def said(*words):
     """The output of a command. If it fails, it ends the script."""
-    done = subprocess.run(words, stdout=subprocess.PIPE, text=True)
+    done = ran(words, stderr=None)
     if done.returncode:
         sys.exit(f"{Path(words[0]).name} ended with {done.returncode}")
     return done.stdout.strip()
@@ -60,16 +66,14 @@ def copy(names, to, parts=None, top=TOP):
     """Copies crates, and their lines of crates.txt, into the repository in a folder. If parts are named, only these are
     copied, otherwise everything except out/."""
     list_crates(names, to, top)
+    crates = Path(top) / "crates"
+
+    def left_out(folder, found):
+        is_crate = Path(folder).parent == crates
+        return [it for it in found if is_crate and (it not in parts if parts else it == "out")]
+
     for name in names:
-        of, mine = Path(top) / "crates" / name, Path(to) / "crates" / name
-        mine.mkdir(parents=True, exist_ok=True)
-        for part in of.iterdir():
-            if part.name not in parts if parts else part.name == "out":
-                continue
-            if part.is_dir():
-                shutil.copytree(part, mine / part.name, symlinks=True)
-            else:
-                shutil.copy(part, mine)
+        shutil.copytree(crates / name, Path(to) / "crates" / name, True, left_out, dirs_exist_ok=True)
 
 
 def main():

@@ -6,6 +6,7 @@ import pytest
 
 pytest.register_assert_rewrite("commands")
 from commands import ARM_CC, BESIDE, CARGO, OUT, SEED, copied, make, make_beside, needs, own_files, runs
+from emulator import built
 from packages import REGISTRY, over
 
 
@@ -47,6 +48,12 @@ def arm():
     needs(ARM_CC)
     runs(make_beside("aarch64", "TARGET=aarch64", f"CC={ARM_CC}"))
     return BESIDE / "aarch64"
+
+
+@pytest.fixture(scope="session")
+def emulated(tmp_path_factory):
+    """The program that runs machine code of aarch64 with any registers."""
+    return built(tmp_path_factory.mktemp("made"))
 
 
 @pytest.fixture(scope="session")

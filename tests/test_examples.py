@@ -15,7 +15,8 @@ WORDS |= {"decode_spaced": "dst, 2, 0"}
 # Calls of faster_hex.hpp whose result must be used.
 OF_CPP = ["encode(text)", "encode(text.data(), 1)", "decode(text)", "decode(text.data(), 2)", "decode_spaced(text)",
           "build()"]
-# Calls that faster_hex.hpp does not let compile, each with a part of the only error, by gcc and by clang.
+# Calls of both headers that faster_hex.hpp does not let compile, each with a part of the only error, by gcc and by
+# clang.
 LITERAL, BYTES, DELETED, NONE = "string literal", "must be bytes", "deleted", "no matching function"
 REFUSED = {
     'encode("hello")': LITERAL,
@@ -34,6 +35,9 @@ REFUSED = {
     "decode(text, 1)": NONE,
     "decode(text, room, 2, FASTER_HEX_LOWERCASE)": DELETED,
     "decode(text.data(), text.size(), room, 2, 1)": NONE,
+    # A separator where the number of bytes belongs.
+    "faster_hex_encode_grouped(text.data(), 1, room, 2, false, ':', 1)": DELETED,
+    "faster_hex_decode_grouped(text.data(), 2, room, 1, 0, ':', 1)": DELETED,
 }
 
 
@@ -230,7 +234,8 @@ def test_what_the_header_of_cpp_refuses(tmp_path, compiler, standard, call):
     text = f"""#include "faster_hex.hpp"
         std::string text;
         char room[2];
-        void refused() {{ (void)faster_hex::{call}; }}
+        using namespace faster_hex;
+        void refused() {{ (void){call}; }}
         """
     done = ran([compiler, f"-std={standard}", *STRICT, "-fsyntax-only", "-x", "c++", "-"], input=text)
     # An error in a header of the system only explains why a call does not fit.

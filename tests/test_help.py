@@ -31,4 +31,4 @@ def test_help_of_make():
     targets = re.search(r"^\.PHONY: (.*)", (TOP / "Makefile").read_text(), re.M)[1].split()
     wanted = {it for it in targets if "$" not in it} - {"all", "anew", "help"}
     assert not [it for it in wanted if not re.search(rf"^  make {it}\b", said, re.M)]
-    assert "the body of a function\n      rt check --only" in said
+    assert "\n- the body of a function: rt check --only" in said and "\n- anything, before a release: make" in said

@@ -77,7 +77,7 @@ impl<B: Allocator> Refusing<B> {
         self.counts.asked.get()
     }
 
-    /// Returns whether so many allocations were asked for, and all blocks were given back.
+    /// Returns whether `asked` allocations were asked for, and all blocks were given back.
     pub fn is_settled(&self, asked: u64) -> bool {
         self.asked() == asked && self.counts.held.get() == 0
     }

@@ -1,15 +1,28 @@
-//! Rows of vectors: how one runs, as those do that `fhex vectors` has stored, and what is stored.
+//! How a stored vector runs, and what each one has.
 
-use hex_core::{CheckCase, Error};
+use hex_core::CheckCase::{Lower, None as Either, Upper};
+use hex_core::Error::{self, InvalidChar, OddLength, OutputTooSmall};
 use hex_program::program::serve_vectors;
-use hex_program::vectors::{Call, VECTORS, Vector};
+use hex_program::vectors::Call::{
+    self, Decode, Encode, ReadGrouped, ReadList, WriteGrouped, WriteList,
+};
+use hex_program::vectors::{VECTORS, Vector};
 use std::alloc::Global;
-use test_kit::{Row, Words};
+use test_kit::model;
+use test_kit::seen::{Given, Seen};
+use test_kit::source::with;
+
+// Calls a method once for each vector: call, source, result and destination.
+macro_rules! vectors {
+    ($tested:ident.$method:ident: $($name:literal $call:expr, $source:expr, $answer:expr, $left:expr;)*) => {
+        $($tested.$method(Vector { name: $name, call: $call, source: $source, answer: $answer, left: $left });)*
+    };
+}
 
 // One that passes.
 const SOUND: Vector<'static> = Vector {
     name: "sound",
-    call: Call::Decode(CheckCase::None),
+    call: Decode(Either),
     source: b"00aB",
     answer: Ok(2),
     left: b"\x00\xab\xa5",
@@ -17,89 +30,172 @@ const SOUND: Vector<'static> = Vector {
 
 // What a run prints of a vector that fails under each plan, and of a sound one after it.
 const FAILED: &[u8] = b"\
-    scalar stating fail\nscalar sound pass\n\
-    sse41 stating fail\nsse41 sound pass\n\
-    avx2 stating fail\navx2 sound pass\n\
-    avx512 stating fail\navx512 sound pass\n\
-    neon stating fail\nneon sound pass\n\
-    total 10 passed 5 failed 5\n";
+    scalar v fail\nscalar sound pass\nsse41 v fail\nsse41 sound pass\navx2 v fail\navx2 sound pass\n\
+    avx512 v fail\navx512 sound pass\nneon v fail\nneon sound pass\ntotal 10 passed 5 failed 5\n";
 
-// What it prints of one that fails without a plan.
+// What a run prints of a failing vector that takes no plan, as those of groups and lists, and of a sound one after it.
 const FAILED_PLAIN: &[u8] = b"\
     scalar sound pass\nsse41 sound pass\navx2 sound pass\navx512 sound pass\nneon sound pass\n\
-    plain stating fail\ntotal 6 passed 5 failed 1\n";
+    plain v fail\ntotal 6 passed 5 failed 1\n";
 
-// Whether a run of this vector, and of a sound one after it, ends so, and prints this where it fails; and
-// whether it ends so where the vector stands there twice.
-fn ends(alloc: Global, vector: Vector<'_>, failed: Option<&[u8]>) -> bool {
-    let (out, err) = (Vec::new(alloc), Vec::new(alloc));
-    let (status, out, err) = serve_vectors(&alloc, &[vector, SOUND], out, err);
-    let (twice, _, err) = serve_vectors(&alloc, &[vector, vector], Vec::new(alloc), err);
-    let is_printed = failed.is_none_or(|lines| out.as_slice() == lines);
-    let wanted = u8::from(failed.is_some());
-    status == wanted && twice == wanted && is_printed && err.is_empty()
+// The vectors of a test.
+#[derive(Drop)]
+struct Vectors {
+    seen: Seen,
+    alloc: Global,
+    // The place of the next stored vector.
+    place: usize,
 }
 
-// Whether this vector is stored at a place, by this name.
-fn is_stored(place: usize, vector: Vector<'_>, name: &[u8]) -> bool {
-    let Some(stored) = VECTORS.get(place) else {
-        return false;
-    };
-    let is_call = stored.call == vector.call && stored.source == vector.source;
-    let is_answer = stored.answer == vector.answer && stored.left == vector.left;
-    is_call && is_answer && stored.name.as_bytes() == name
-}
+impl Vectors {
+    fn new(alloc: Global) -> Vectors {
+        let (seen, place) = (Seen::new(), 0);
+        Vectors { seen, alloc, place }
+    }
 
-const CALLS: [(&str, Call); 9] = [
-    ("encode", Call::Encode(false)),
-    ("encode-upper", Call::Encode(true)),
-    ("decode", Call::Decode(CheckCase::None)),
-    ("decode-lower", Call::Decode(CheckCase::Lower)),
-    ("decode-upper", Call::Decode(CheckCase::Upper)),
-    ("write-grouped", Call::WriteGrouped),
-    ("read-grouped", Call::ReadGrouped),
-    ("write-list", Call::WriteList),
-    ("read-list", Call::ReadList),
-];
+    // Compares how a run of a vector and of a sound one after it ends, and what it prints if the vector fails; and how
+    // a run ends that has the vector twice.
+    fn ends(&mut self, vector: Vector<'_>, fails: bool) {
+        self.seen.tries();
+        let given = Given::new(Either, vector.left.len(), vector.source);
+        let alloc = self.alloc;
+        let (out, err) = (Vec::new(alloc), Vec::new(alloc));
+        let (status, out, err) = serve_vectors(&alloc, &[vector, SOUND], out, err);
+        let (twice, _, err) = serve_vectors(&alloc, &[vector, vector], Vec::new(alloc), err);
+        self.seen.is(given, "status", status, u8::from(fails));
+        self.seen.is(given, "status of two", twice, u8::from(fails));
+        let has_plans = matches!(vector.call, Encode(_) | Decode(_));
+        let lines = if has_plans { FAILED } else { FAILED_PLAIN };
+        let is_printed = !fails || out.as_slice() == lines;
+        self.seen.is(given, "lines", is_printed, true);
+        self.seen.is(given, "no message", err.is_empty(), true);
+    }
 
-// What a run prints of a vector of this call that fails. Groups and lists have no plans.
-fn failed(call: Call) -> &'static [u8] {
-    match call {
-        Call::WriteGrouped | Call::ReadGrouped | Call::WriteList | Call::ReadList => FAILED_PLAIN,
-        _ => FAILED,
+    fn passes(&mut self, vector: Vector<'_>) {
+        self.ends(vector, false);
+    }
+
+    fn fails(&mut self, vector: Vector<'_>) {
+        self.ends(vector, true);
+    }
+
+    // Compares the next stored vector.
+    fn stores(
+        &mut self,
+        name: &str,
+        call: Call,
+        source: &[u8],
+        answer: Result<usize, Error>,
+        left: &[u8],
+    ) {
+        self.seen.tries();
+        let given = Given::new(Either, left.len(), source);
+        let is_stored = VECTORS.get(self.place).is_some_and(|stored| {
+            let is_input = stored.call == call && stored.source == source;
+            stored.name == name && is_input && stored.answer == answer && stored.left == left
+        });
+        self.seen.is(given, "stored", is_stored, true);
+        self.place = self.place.saturating_add(1);
     }
 }
 
-// Reads what a vector states of its call: `ok` and how many bytes are written, or the refusal.
-fn stated(call: &mut Words) -> Result<usize, Error> {
-    if call.takes(b"ok") {
-        Ok(call.take_number())
-    } else {
-        Err(call.take_refusal())
+// What fails: other bytes, fewer, more, an error, none, another one, too little room; another call; other bytes behind
+// those that are written, or where none are; more room than there is. The last ones pass.
+#[test]
+fn a_vector_fails_unless_all_that_it_states_is_right(rt: HostRuntime) {
+    let mut vectors = Vectors::new(rt.alloc());
+    vectors! { vectors.fails:
+        "v" Decode(Either), b"00aB", Ok(2), b"\x00\xac\xa5";
+        "v" Decode(Either), b"00aB", Ok(2), b"\x00";
+        "v" Decode(Either), b"00aB", Ok(2), b"\x00\xab\xa4";
+        "v" Decode(Either), b"00aB", Ok(1), b"\x00\xab\xa5";
+        "v" Decode(Either), b"00aB", Ok(3), b"\x00\xab\xa5";
+        "v" Decode(Either), b"00aB", Err(OddLength), b"\x00\xab\xa5";
+        "v" Decode(Either), b"00a", Ok(0), &[0xa5; 3];
+        "v" Decode(Either), b"00ag", Err(InvalidChar { index: 3, byte: b'G' }), &[0xa5; 3];
+        "v" Decode(Lower), b"00aB", Ok(2), b"\x00\xab\xa5";
+        "v" Encode(false), b"00aB", Ok(2), b"\x00\xab\xa5";
+        "v" Encode(true), b"\xab", Ok(2), b"ab";
+        "v" Decode(Either), b"00a", Err(OddLength), b"\xa5\xa5\x00";
+        "v" Decode(Either), b"", Ok(0), &[0xa5; 129];
     }
+    vectors! { vectors.passes:
+        "v" ReadGrouped, b"aB01:02", Ok(3), b"\xab\x01\x02\xa5";
+        "v" ReadGrouped, b"00:", Err(OddLength), &[0xa5; 3];
+        "v" Encode(true), b"\xab", Ok(2), b"AB";
+        "v" Decode(Either), b"00a", Err(OddLength), &[0xa5; 3];
+        "v" Decode(Either), b"", Ok(0), &[0xa5; 128];
+    }
+    assert_eq!(rt; vectors.seen.ended(18), "");
 }
 
-/// Whether `vector VECTOR` is answered `passes` or `fails`, or `stored PLACE VECTOR` by its name. A vector is
-/// `CALL SOURCE ANSWER LEFT`.
-pub fn is_answered(row: &mut Row, has_place: bool) -> bool {
-    let place = if has_place { row.call.take_number() } else { 0 };
-    let Some(call) = row.call.one_of(&CALLS) else {
-        return false;
-    };
-    row.call.take_bytes(&mut row.given);
-    let answer = stated(&mut row.call);
-    row.call.take_bytes(&mut row.wanted);
-    let vector = Vector {
-        name: "stating",
-        call,
-        source: row.given.as_slice(),
-        answer,
-        left: row.wanted.as_slice(),
-    };
-    if has_place {
-        is_stored(place, vector, row.answer.next())
-    } else {
-        let passes = row.answer.is_either(b"passes", b"fails");
-        ends(row.alloc, vector, (!passes).then_some(failed(call)))
+// What fails of groups and lists: a separator elsewhere, a byte behind, another case; another place of an error, a
+// destination that changed; of an entry that is read another digest, mark or name, digits of another policy, a second
+// one and no list; of one that is written another case, mark or name, fewer bytes, another number, and no entry.
+#[test]
+fn a_vector_of_groups_or_lists_fails_unless_all_is_right(rt: HostRuntime) {
+    let mut vectors = Vectors::new(rt.alloc());
+    vectors! { vectors.fails:
+        "v" WriteGrouped, b"\x00\x01\x02", Ok(7), b"000:102";
+        "v" WriteGrouped, b"\x00\x01\x02", Ok(7), b"0001:02\x00";
+        "v" WriteGrouped, b"\xab", Ok(2), b"AB";
+        "v" ReadGrouped, b"00:0102", Err(InvalidChar { index: 3, byte: b'0' }), &[0xa5; 3];
+        "v" ReadGrouped, b"00:0102", Err(InvalidChar { index: 2, byte: b':' }), b"\xa5\xa5\x00";
+        "v" ReadList, b"ab02 *b", Ok(1), b"\xab\x01*b";
+        "v" ReadList, b"ab01  b", Ok(1), b"\xab\x01*b";
+        "v" ReadList, b"ab01 *c", Ok(1), b"\xab\x01*b";
+        "v" ReadList, b"ab01 *b\nab01 *b", Ok(1), b"\xab\x01*b";
+        "v" ReadList, b"ab01 *c", Ok(1), b"\xab\x01*b";
+        "v" ReadList, b"AB01 *b", Ok(1), b"\xab\x01*b";
+        "v" ReadList, b"ab01 *b", Ok(0), b"\xab\x01*b";
+        "v" ReadList, b"ab01 *b", Ok(2), b"\xab\x01*b";
+        "v" ReadList, b"ab01 *b\nab01 *b", Ok(2), b"\xab\x01*b";
+        "v" ReadList, b"ab01 *b\nab01 *b", Ok(3), b"\xab\x01*b";
+        "v" ReadList, b"zz", Err(InvalidChar { index: 0, byte: b'z' }), b"\xab\x01*b";
+        "v" WriteList, b"\xab\x01*b", Ok(8), b"ab01 *b\n";
+        "v" WriteList, b"\xab\x01*b", Ok(8), b"AB01 *c\n";
+        "v" WriteList, b"\xab\x01 b", Ok(8), b"AB01 *b\n";
+        "v" WriteList, b"\xab\x01*b", Ok(7), b"AB01 *b";
+        "v" WriteList, b"\xab\x01*b", Ok(8), b"AB01 *b\n\x00";
+        "v" WriteList, b"\xab\x01*b", Ok(7), b"AB01 *b\n";
+        "v" WriteList, b"\xab", Ok(0), b"";
     }
+    assert_eq!(rt; vectors.seen.ended(23), "");
+}
+
+#[test]
+fn the_stored_vectors_are_these(rt: HostRuntime) {
+    let mut vectors = Vectors::new(rt.alloc());
+    let (sevens, ones) = (with([b'7'; 64], 1, 0xff), with([b'1'; 130], 129, b'!'));
+    let (mut bytes, mut decoded) = ([0; 33], [0xa5; 40]);
+    for i in 0..33 {
+        bytes[i] = i as u8;
+        decoded[i] = i as u8;
+    }
+    let (mut text, mut capitals) = ([0; 66], [0; 66]);
+    let lower = model::encoded(&bytes, false, 66, &mut text).unwrap_or_default();
+    let upper = model::encoded(&bytes, true, 66, &mut capitals).unwrap_or_default();
+    calls! { vectors.stores:
+        "v01", Encode(false), b"hello", Ok(10), b"68656c6c6f";
+        "v02", Encode(true), b"\x00\xab\xff", Ok(6), b"00ABFF";
+        "v03", Encode(false), b"\xab\xcd", Err(OutputTooSmall { required: 4 }), &[0xa5; 3];
+        "v04", Decode(Either), b"00aBcD", Ok(3), b"\x00\xab\xcd\xa5\xa5";
+        "v05", Decode(Either), b"00ff0g", Err(InvalidChar { index: 5, byte: b'g' }), &[0xa5; 3];
+        "v06", Decode(Either), b"g", Err(OddLength), &[0xa5; 32];
+        "v07", Decode(Either), b"gg", Err(OutputTooSmall { required: 1 }), b"";
+        "v08", Decode(Either), b"0A0bg!ff", Err(InvalidChar { index: 4, byte: b'g' }), &[0xa5; 4];
+        "v09", Decode(Lower), b"0A0bg!ff", Err(InvalidChar { index: 1, byte: b'A' }), &[0xa5; 4];
+        "v10", Decode(Upper), b"0A0bg!ff", Err(InvalidChar { index: 3, byte: b'b' }), &[0xa5; 4];
+        "v11", Decode(Either), b"\xc3\xa9", Err(InvalidChar { index: 0, byte: 0xc3 }), &[0xa5; 4];
+        "v12", Decode(Either), &sevens, Err(InvalidChar { index: 1, byte: 0xff }), &[0xa5; 32];
+        "v13", Decode(Either), &ones, Err(InvalidChar { index: 129, byte: b'!' }), &[0xa5; 65];
+        "v14", Encode(false), &bytes, Ok(66), lower;
+        "v15", Decode(Upper), upper, Ok(33), &decoded;
+        "v16", Decode(Either), b"", Ok(0), &[0xa5; 3];
+        "v17", WriteGrouped, b"\x00\x01\x02", Ok(7), b"0001:02";
+        "v18", ReadGrouped, b"00:0102", Err(InvalidChar { index: 2, byte: b':' }), &[0xa5; 3];
+        "v19", ReadList, b"ab01 *b", Ok(1), b"\xab\x01*b";
+        "v20", WriteList, b"\xab\x01*b", Ok(8), b"AB01 *b\n";
+    }
+    assert_eq!(rt; vectors.seen.ended(20), "");
 }
