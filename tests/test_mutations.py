@@ -4,7 +4,8 @@
 - A right body among them is reported as missed, even if a function that it calls or one of the same name is wrong. A
   wrong body that a weak contract allows is missed too.
 - A mutation that can't be compiled or applied is an error. So is one that is refused only because a name is missing,
-  even if the message has two lines."""
+  even if the message has two lines.
+- A test that fails notices a mutation, and must not fail without one."""
 import os
 import re
 import shutil
@@ -79,6 +80,19 @@ IN_A_MODULE = [
     ("one is large", "        1", "        9", REFUSED),
     ("one is right beside its namesake", "        3", "        4", PROVED),
 ]
+# A test of the crate, and mutations with the results of trying them by it.
+OF_TINY = """//! A test.
+#![tactic(auto)]
+
+#[test]
+fn five_is_five(rt: HostRuntime) {
+    assert_eq!(rt; tiny::five(), 5);
+}
+"""
+BY_TESTS = [
+    ("five is six", "    5", "    6", "noticed: tiny: {}: five_is_five in test_tiny fails$"),
+    ("six is seven", "    6", "    7", "missed: tiny: {}: no test fails$"),
+]
 
 
 def table_of(heading, file, mutations):
@@ -139,6 +153,22 @@ def test_the_gate_tries_the_first_alone(top):
     end = r"\n\d+ s of processor; left out: 11 other mutations, .*\n1 passed, 1 failed\n$"
     assert re.search(rf"^tiny: 1 of 1 refused, \d+ s of processor{end}", done.stdout, re.M), done.stdout
     assert done.stdout.startswith("error: tiny: can not be applied: ") and done.returncode == 1
+
+
+@pytest.mark.parametrize("is_right", [True, False])
+def test_what_tests_notice(top, tmp_path, is_right):
+    needs("rt")
+    shutil.copytree(top, tmp_path, dirs_exist_ok=True)
+    (tmp_path / "crates.txt").write_text("tiny:\ntest_tiny: tiny\n")
+    (tmp_path / "crates/tiny/mutations").write_text(table_of("Tests notice", "lib.rt", BY_TESTS))
+    (tmp_path / "crates/test_tiny/src").mkdir(parents=True)
+    (tmp_path / "crates/test_tiny/src/lib.rt").write_text(OF_TINY if is_right else OF_TINY.replace("5)", "4)"))
+    done = tries(tmp_path)
+    if is_right:
+        assert all(re.search(f"^{said.format(sentence)}", done.stdout, re.M) for sentence, *_, said in BY_TESTS)
+    else:
+        assert done.stdout == "mutations: five_is_five in test_tiny fails without a mutation too\n"
+    assert done.returncode == 1
 
 
 def test_a_word_names_some(top):
