@@ -46,16 +46,12 @@ END {
     print "!llvm.module.flags = !{!9999}\n!9999 = !{i32 8, !\"" mark "\", i32 1}"
 }
 
-# The text that the toolchain writes may change. Then it must not pass without the edit.
-function must_have(found, wanted, what) {
-    if (found == wanted) return
-    printf "library.awk: the LLVM text has %d %s, but must have %d\n", found, what, wanted >"/dev/stderr"
-    exit 1
-}
+# The text that the toolchain writes may change. Then it must not pass without the edits.
 END {
-    must_have(edits + 0, 1, "calls of `level`")
-    if (level == 5) {
-        must_have(look_ups + 0, 1, "functions `look_up_row_of_64`")
-        must_have(hints + 0, 5, "functions that look up long rows")
+    found = "calls of `level`: " edits + 0 ", functions `look_up_row_of_64`: " look_ups + 0 ", inlined: " hints + 0
+    wanted = "calls of `level`: 1, functions `look_up_row_of_64`: " (level == 5 ? "1, inlined: 5" : "0, inlined: 0")
+    if (found != wanted) {
+        print "library.awk: the LLVM text has " found ", but must have " wanted >"/dev/stderr"
+        exit 1
     }
 }

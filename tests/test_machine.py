@@ -20,41 +20,43 @@ import pytest
 
 z3 = pytest.importorskip("z3")
 pytest.importorskip("capstone")
+import changes
 import machine.__main__ as command
-from commands import CC, CHANGES, CRATE, PRINTED, SEED, TOP, by_cmake, compiled, make, needs, ran, runs
+from changes import changed
+from commands import ARM_CC, CC, CHANGES, CRATE, PRINTED, SEED, TOP, by_cmake, compiled, make, needs, ran, runs
 from machine import Refused, execution, values
 from machine.__main__ import BUILDS, sums
-from machine.code import assembles
 from machine.grouped import GROUPED, shown_grouped
-from machine.image import Image, linked
-from machine.forms import FORMS, WIDTHS
-from machine.instructions import EACH, TABLE
+from machine.image import Image, linked, name_of
 from machine.replay import Replay
 from machine.state import LENGTH, STACK, State
 from machine.statements import CALLS, POLICIES, shown
+from machine.x86_64 import PROCESSOR
+from machine.x86_64.code import assembles
+from machine.x86_64.forms import FORMS, WIDTHS
+from machine.x86_64.instructions import CONDITIONS, TABLE
 
 GENERATED = TOP / "generated"
 PAIRS = [(build, call) for build, (_, calls) in BUILDS.items() for call in calls]
+X86_64 = [it for it in BUILDS if it != "aarch64"]
 # The quick test has sources of at most so many bytes. For digits in groups there are fewer, because each length is
 # executed by itself.
 SHORT, SHORT_GROUPED = 8, 2
 # The quickest calls are quickly shown for every length. For the others the record does it.
-EVERY_LENGTH = ("v2", "encode"), ("v3", "encode"), ("v3", "check")
+EVERY_LENGTH = ("v2", "encode"), ("v3", "encode"), ("v3", "check"), ("aarch64", "encode")
 # The functions of which no call executes some instructions, and how many are left. Each call for C has a jump to the
 # baseline build, which is not checked. In v3_encode an instruction begins a loop of one block, but the loop has more.
-# Two functions only return texts. Of grouped calls, security.md says what no source of at most 1,024 bytes executes.
+# For aarch64, three jumps are left for a search that finds no invalid byte. Some functions only return texts. Of
+# grouped calls, security.md says what no source of at most 1,024 bytes executes.
 LEFT = {f"faster_hex_{it}": 1 for it in CALLS if it not in POLICIES}
 LEFT |= {"x86-64-v3_encode": 1, "faster_hex_status_text": 8, "faster_hex_version": 2, "faster_hex_build": 5}
 LEFT["x86-64-vbmi_core_backend_Backend_decode_or_find_outlined"] = 2
 LEFT |= {"x86-64-v2_encode_grouped": 1, "x86-64-v3_encode_grouped": 5}
 LEFT |= {"x86-64-v2_decode_grouped": 39, "x86-64-v3_decode_grouped": 39}
 LEFT |= {"x86-64-v2_codec_pieces_read_long_piece": 88, "x86-64-v3_codec_pieces_read_long_piece": 72}
-
-
-def rows(name):
-    """The rows of a file. A line that begins with a space goes on with the row before."""
-    text = re.sub(r"\n +", " ", (TOP / "tests/machine" / name).read_text())
-    return [it for it in text.splitlines() if it[0] != "#"]
+LEFT |= {"aarch64_core_backend_Backend_first_invalid_byte": 2, "aarch64_core_backend_Backend_first_invalid": 1}
+LEFT |= {"aarch64_faster_hex_status_text": 9, "aarch64_faster_hex_version": 3, "aarch64_faster_hex_build": 3}
+LEFT |= {"aarch64_encode_grouped": 2, "aarch64_decode_grouped": 35, "aarch64_codec_pieces_read_long_piece": 150}
 
 
 def all_shown(image, build, call, most, *least):
@@ -67,6 +69,17 @@ def image(library, tmp_path_factory):
     return linked(tmp_path_factory.mktemp("made") / "image", library / "libfaster_hex.a")
 
 
+@pytest.fixture(scope="module")
+def arm_image(arm, tmp_path_factory):
+    needs("aarch64-linux-gnu-ld", "aarch64-linux-gnu-objdump")
+    return linked(tmp_path_factory.mktemp("made") / "image", arm / "libfaster_hex.a")
+
+
+def image_for(build, request):
+    """The image that has a build, on a processor that runs it."""
+    return Image(request.getfixturevalue("image" if build in X86_64 else "arm_image"), BUILDS[build][0])
+
+
 @pytest.fixture(autouse=True)
 def forgets():
     yield
@@ -75,17 +88,17 @@ def forgets():
 
 @pytest.mark.quick
 @pytest.mark.parametrize("build, call", PAIRS)
-def test_call(image, build, call):
+def test_call(request, build, call):
     most = SHORT_GROUPED if call in GROUPED else SHORT
-    assert all_shown(Image(image, BUILDS[build][0]), build, call, most)
+    assert all_shown(image_for(build, request), build, call, most)
 
 
 @pytest.mark.quick
 @pytest.mark.parametrize("build, call", EVERY_LENGTH)
-def test_every_length(image, build, call):
+def test_every_length(request, build, call):
     """The call is shown. This is not true only because no path is possible: for each of some lengths there is an end
     where all digits are valid, and one where some are not, if the call tells them apart by branches."""
-    those = all_shown(Image(image, BUILDS[build][0]), build, call, None)
+    those = all_shown(image_for(build, request), build, call, None)
     lengths = [0, 1, 2, 17, 33, 65, 128, 257, 575, 576, 1000, 2**32 + 66, 2**63 - 2]
     lengths.append(random.Random(SEED).randrange(2**62))
     for length in lengths:
@@ -96,9 +109,9 @@ def test_every_length(image, build, call):
 
 @pytest.mark.quick
 @pytest.mark.parametrize("build", BUILDS)
-def test_ends_of_decode(image, build):
+def test_ends_of_decode(request, build):
     """The same for calls that find an invalid digit."""
-    for it in all_shown(Image(image, BUILDS[build][0]), build, "decode", SHORT):
+    for it in all_shown(image_for(build, request), build, "decode", SHORT):
         for length in range(SHORT + 1):
             is_refused = length % 2 == 0 and length > 0
             assert kinds_of_ends(it, length) == ({False, True} if is_refused else {False}), length
@@ -138,11 +151,11 @@ def test_record():
     text = (GENERATED / "SHOWN").read_text()
     assert text.startswith(sums())
     lines = text.removeprefix(sums()).splitlines()
-    said = dict(it.groups() for it in (re.fullmatch(r"x86-64-(v\w+ \w+): (.*)", line) for line in lines) if it)
-    assert [*said] == [f"{build} {call}" for build, call in PAIRS]
+    said = dict(it.groups() for it in (re.fullmatch(r"([\w-]+ \w+): (.*)", line) for line in lines) if it)
+    assert [*said] == [f"{name_of(build)} {call}" for build, call in PAIRS]
     for build, call in PAIRS:
         words = "0 to 32 bytes in groups of each size, any separator; up to 1024 "
-        assert said[f"{build} {call}"].startswith(words if call in GROUPED else "every length, ")
+        assert said[f"{name_of(build)} {call}"].startswith(words if call in GROUPED else "every length, ")
     found = [re.fullmatch(r"(\S+): (\d+) of (\d+) instructions executed", it) for it in lines]
     left = {it[1]: int(it[3]) - int(it[2]) for it in found if it}
     assert {*left} == names_of_functions()
@@ -152,10 +165,10 @@ def test_record():
 def names_of_functions():
     """The functions of each build, and those for C."""
     others = "decode_spaced", "status_text", "version", "build"
-    names = {f"faster_hex_{it}" for it in (*CALLS, *others) if it not in POLICIES}
-    for build in BUILDS:
-        text = (GENERATED / f"x86-64-{build}.s").read_text()
-        names |= {f"x86-64-{it}" for it in re.findall(rf"\thex_(?:function|export)\t\w+_x86_64_({build}_\w+)", text)}
+    names = {f"{it}faster_hex_{call}" for call in (*CALLS, *others) if call not in POLICIES for it in ("", "aarch64_")}
+    for build in map(name_of, BUILDS):
+        text, name = (GENERATED / f"{build}.s").read_text(), build.replace("-", "_")
+        names |= {build + it for it in re.findall(rf"\thex_(?:function|export)\t\w+_{name}(_\w+)", text)}
     return names
 
 
@@ -248,9 +261,14 @@ def test_wrong_words(library):
     assert done.returncode == 0 and "usage: " in done.stdout and "--jobs" in done.stdout
 
 
-def test_archive_for_another_processor(arm):
-    done = checks(arm / "libfaster_hex.a")
-    assert done.returncode == 2 and done.stdout.count("\n") == 1 and "not for x86-64" in done.stdout
+def test_archive_for_another_processor(arm, tmp_path):
+    """A build for another processor than that of the file, and a file for RISC-V by its header."""
+    data = bytearray((arm / "fhex").read_bytes())
+    data[18] = 243
+    (tmp_path / "program").write_bytes(data)
+    for words, why in ((arm / "libfaster_hex.a", "v3"), "another processor"), ((tmp_path / "program",), "neither for"):
+        done = checks(*words)
+        assert done.returncode == 2 and done.stdout.count("\n") == 1 and why in done.stdout, done.stdout
 
 
 # A line of a module, and one of the same length in its place.
@@ -304,12 +322,24 @@ def program_in_rust(tmp_path, fixture):
     return tmp_path / "target/release/over"
 
 
+def made_for_arm(_, fixture):
+    needs("aarch64-linux-gnu-ld", "aarch64-linux-gnu-objdump")
+    return fixture("arm") / "libfaster_hex.a"
+
+
+def program_for_arm(tmp_path, fixture):
+    library = made_for_arm(tmp_path, fixture)
+    return compiled(ARM_CC, tmp_path / "program", "-static", TOP / "examples/c/digits.c", library)
+
+
 # How a file with the library is made, and some of its calls with the most bytes of a source.
 MADE = {
     by_make: ["v2 encode 8", "v3 check_with_case 8", "v4 decode_with_case 8", "vbmi check 8", "v3 decode_grouped 2"],
     made_by_cmake: ["v2 decode 8", "v3 first_invalid 8", "v4 check 8", "vbmi decode_with_case 8"],
     program_in_c: ["v3 encode 8", "v4 decode 8"],
     program_in_rust: ["v2 check 8", "v3 decode 8", "v4 decode 8", "vbmi decode 8"],
+    made_for_arm: ["aarch64 first_invalid 8", "aarch64 decode_with_case 8", "aarch64 encode_grouped 2"],
+    program_for_arm: ["aarch64 encode 8", "aarch64 decode 8"],
 }
 
 
@@ -321,7 +351,7 @@ def test_anybodys_file(tmp_path, request, making):
     for words in MADE[making]:
         build, call, most = words.split()
         done = checks(file, build, call, most)
-        said = f"x86-64-{build} {call}: 0 to {most} bytes"
+        said = f"{name_of(build)} {call}: 0 to {most} bytes"
         assert done.returncode == 0 and f"\n{said}" in done.stdout and "file sha256 " in done.stdout, done.stdout
 
 
@@ -413,7 +443,7 @@ def archive_with(folder, text, *words, compiler=CC):
     """An archive of the builds and a text in the place of dispatch.c."""
     (folder / "dispatch.c").write_text(text)
     runs([compiler, "-c", *(words or ["-O2"]), f"-I{CRATE}", "-o", folder / "dispatch.o", folder / "dispatch.c"])
-    runs([CC, "-c", "-o", folder / "builds.o", GENERATED / "builds.S"])
+    runs([compiler if compiler == ARM_CC else CC, "-c", "-o", folder / "builds.o", GENERATED / "builds.S"])
     runs(["ar", "rcs", folder / "made.a", folder / "dispatch.o", folder / "builds.o"])
     return folder / "made.a"
 
@@ -446,6 +476,7 @@ LEVELS_OF_OPTIMIZATION = "-O0", "-O1", "-O2", "-O3", "-Os", "-Oz", "-Og"
 OPTIONS = {it: None for each in LEVELS_OF_OPTIMIZATION for it in (each, f"{each} -fno-optimize-sibling-calls")}
 OPTIONS |= {"-O0 -fPIC": None, "-O2 -fno-omit-frame-pointer": None, "-O2 -mno-red-zone": None, "-O1 -fno-inline": None}
 OPTIONS |= dict.fromkeys(("-O2 -fstack-protector-all", "-O0 -finstrument-functions"), "calls another function")
+OPTIONS_FOR_ARM = [it for it in OPTIONS if "red-zone" not in it] + ["-O2 -mbranch-protection=standard"]
 
 
 @pytest.mark.apart
@@ -460,41 +491,33 @@ def test_compiled_dispatch(tmp_path, compiler, options):
         assert is_shown if OPTIONS[options] is None else OPTIONS[options] in said, said
 
 
-def changed(build, function, rules=()):
-    """The assembly of a build in which lines of a function are changed. A rule changes one line or each that fits."""
-    text = (GENERATED / f"x86-64-{build}.s").read_text()
-    begin, end = 0, len(text)
-    if function != "anywhere":
-        begin, end = re.search(rf"\thex_\w+\t\w+_{build}_{function}\b(?s:.*?)\thex_end", text).span()
-        begin = max(text.rfind("\thex_end", 0, begin), 0)
-    lines = [it.strip().replace("\t", " ") for it in text[begin:end].split("\n")]
-    for rule in rules:
-        number, pattern, instead = re.fullmatch(r"(\d+) (.*?) => ?(.*)", rule).groups()
-        fitting = [at for at, it in enumerate(lines) if re.fullmatch(pattern, it)]
-        for at in fitting if number == "0" else [fitting[int(number) - 1]]:
-            line = lines[at]
-            lines[at] = re.sub(f"^{pattern}$", instead.replace(r"\0", r"\g<0>"), line).replace("; ", "\n")
-            assert lines[at] != line
-    return '#include "elf.inc"\n' + text[:begin] + "\n".join(lines) + text[end:]
+@pytest.mark.apart
+@pytest.mark.parametrize("options", OPTIONS_FOR_ARM)
+def test_compiled_dispatch_for_arm(tmp_path, options):
+    """The same for aarch64, where such a call is refused as soon as it asks for the protector or its own address."""
+    needs(ARM_CC, "aarch64-linux-gnu-ld", "aarch64-linux-gnu-objdump")
+    made = linked(tmp_path / "image", archive_with(tmp_path, DISPATCH, *options.split(), compiler=ARM_CC))
+    for call in "decode_grouped", "encode", "first_invalid":
+        said, is_shown, _ = command.checked(made, "aarch64", call, 1)
+        assert is_shown == (OPTIONS.get(options) is None), said
 
 
-def assembled(folder, text, level=None):
+def assembled(folder, text, level=None, compiler=CC):
     """Assembles a text, and returns the image of this object alone."""
     (folder / "made.S").write_text(text)
-    runs([CC, "-c", f"-I{GENERATED}", "-o", folder / "made.o", folder / "made.S"])
+    runs([compiler, "-c", f"-I{GENERATED}", "-o", folder / "made.o", folder / "made.S"])
     return Image(linked(folder / "image", folder / "made.o"), level)
 
 
 @pytest.mark.apart
-@pytest.mark.parametrize("row", rows("changes.txt"))
+@pytest.mark.parametrize("row", changes.rows("x86_64/changes.txt") + changes.rows("aarch64/changes.txt"))
 def test_change(tmp_path, row):
-    where, *rules, _ = row.split(" | ")
-    build, call, *words = where.split()
-    lengths, functions = ([it for it in words if it[0].isdigit() == is_length] for is_length in (True, False))
-    least = [int(it[:-1]) for it in lengths if it[-1] == "-"]
-    image = assembled(tmp_path, changed(build, *functions or [call], rules), BUILDS[build][0])
+    it = changes.read(row)
+    compiler = CC if it.build in X86_64 else ARM_CC
+    needs(compiler)
+    image = assembled(tmp_path, it.text, BUILDS[it.build][0], compiler)
     with pytest.raises(Refused):
-        all_shown(image, build, call, max([int(it) for it in lengths if it.isdigit()], default=None), *least)
+        all_shown(image, it.build, it.call, max(it.lengths, default=None), *it.least)
 
 
 # Copies of a loop that are right too: how its counter begins, how it changes in a turn, and the jump to the next turn.
@@ -561,7 +584,7 @@ def test_wrong_claim(image, call):
 # Loops whose bytes are changed at random: the build, the call, and the function that they are in.
 CHECKS = {"v3": "core_plain_check_long_outlined"} | dict.fromkeys(("v4", "vbmi"), "core_plain_check_wide_outlined")
 LOOPS = [("v2", "encode", "encode"), ("v3", "encode", "encode"), *[(it, "check", at) for it, at in CHECKS.items()]]
-LOOPS += [(it, "decode", "core_backend_Backend_decode_or_find_outlined") for it in BUILDS]
+LOOPS += [(it, "decode", "core_backend_Backend_decode_or_find_outlined") for it in X86_64]
 # What processors have that run a build.
 FLAG = {"v2": "sse4_2", "v3": "avx2", "v4": "avx512bw", "vbmi": "avx512vbmi"}
 PAGE, FILL = 4096, 0xaa
@@ -702,7 +725,7 @@ NO_INSTRUCTIONS = {
 
 def executes(image, at):
     """Executes an instruction and reads it once more, as the record does."""
-    execution.Machine(image, values.constant(0, 8), None, None, (), None).advances(State(at))
+    execution.Machine(image, values.constant(0, 8), None, None, (), None).advances(State(at, PROCESSOR))
     assembles([image.instruction(at)])
 
 
@@ -802,7 +825,7 @@ def modelled(image, begin, end, is_wide, known):
     block = {it: values.bytes_of(values.unknown(it, size)) for it, size in BLOCK.items()}
     if known:
         block = {it: [values.constant(known[f"{it} {at}"], 1) for at in range(size)] for it, size in BLOCK.items()}
-    machine, state = execution.Machine(image, values.constant(0, 8), None, None, (), None), State(begin)
+    machine, state = execution.Machine(image, values.constant(0, 8), None, None, (), None), State(begin, PROCESSOR)
     state.registers.update({it: values.joined(block[it]) for it in ("rax", "rcx", "rdx")},
                            rdi=values.plus(STACK, MEMORY[0]))
     state.vectors[:3] = [block[f"vector {it}"] + block[f"above {it}"] for it in range(3)]
@@ -892,5 +915,5 @@ def test_instruction(tmp_path, name):
 @pytest.mark.quick
 def test_forms():
     """Each instruction with a form has an effect, and the other way round."""
-    effects = {name for name in TABLE} | {name for name in ("ret", "call", "jmp")} | {f"j{it}" for it in EACH}
+    effects = {name for name in TABLE} | {name for name in ("ret", "call", "jmp")} | {f"j{it}" for it in CONDITIONS}
     assert {it if it in effects else it[1:] for it in FORMS} == effects

@@ -3,8 +3,8 @@ are compared with a definition of hex. __main__.py says how to run it, and ../..
 
 To read it, begin with hexadecimal.py, which defines hex, and statements.py, which says what must hold of a call. The
 file loops.py begins with the argument why finitely many paths are enough. Then execution.py has the rules for memory
-and branches, code.py reads instructions, forms.py says which of them have a model, and instructions.py has the effect
-of each of them."""
+and branches. processor.py says what differs by processor. There is a folder for each: code.py reads instructions,
+forms.py says which of them have a model, and instructions.py has the effect of each of them."""
 import sys
 from pathlib import Path
 

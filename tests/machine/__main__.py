@@ -17,9 +17,9 @@ BEGAN = time.time_ns()
 import capstone
 import z3
 
-from . import Refused, code
+from . import Refused, aarch64, code, x86_64
 from .grouped import GROUPED, MOST, shown_grouped
-from .image import Image, linked
+from .image import Image, linked, name_of, processor_of
 from .loops import SHORT
 from .statements import CALLS, shown
 from .values import forget
@@ -29,11 +29,13 @@ KEPT = []
 # The builds for AVX-512 have the calls that check and decode.
 WIDEST = [it for it in CALLS if it.startswith(("check", "decode")) and it not in GROUPED]
 # Each build with its level, which is that of the processors that run it, and the calls that it has.
-BUILDS = {"v2": (2, CALLS), "v3": (3, CALLS), "v4": (4, WIDEST), "vbmi": (5, WIDEST)}
+BUILDS_OF = {x86_64.PROCESSOR: {"v2": (2, CALLS), "v3": (3, CALLS), "v4": (4, WIDEST), "vbmi": (5, WIDEST)},
+             aarch64.PROCESSOR: {"aarch64": (1, CALLS)}}
+BUILDS = {build: it for those in BUILDS_OF.values() for build, it in those.items()}
 # The sources of the machine code, and of this tool, because a change of the tool needs a new record.
-SOURCES = [f"generated/x86-64-{it}.s" for it in BUILDS] + """generated/builds.S generated/elf.inc
+SOURCES = [f"generated/{name_of(it)}.s" for it in BUILDS] + """generated/builds.S generated/elf.inc
     crates/faster_hex_c/dispatch.c crates/faster_hex_c/assembly.h crates/faster_hex_c/faster_hex.h""".split()
-SOURCES += sorted(f"tests/machine/{it.name}" for it in Path(__file__).parent.glob("*.py"))
+SOURCES += sorted(f"{it.relative_to(TOP)}" for it in Path(__file__).resolve().parent.rglob("*.py"))
 
 
 def sums():
@@ -44,7 +46,8 @@ def sums():
 def tools(file, made):
     """The hash of a file, the compilers that it names, and the versions of what checks it."""
     compilers = re.findall(r"^ +\[ *\w+\] +(.*)$", code.output("readelf", "-p", ".comment", made), re.M)
-    linker, disassembler = (code.output(it, "--version").splitlines()[0] for it in ("ld", "objdump"))
+    names = (processor_of(made).tools + it for it in ("ld", "objdump"))
+    linker, disassembler = (code.output(it, "--version").splitlines()[0] for it in names)
     return [f"file sha256 {hashlib.sha256(file.read_bytes()).hexdigest()}",
             f"compiled by {', '.join(compilers) or 'a compiler that it does not name'}",
             f"checked by Z3 {z3.get_version_string()}, Capstone {capstone.__version__}, {disassembler}, {linker}"]
@@ -62,8 +65,9 @@ def branches(those):
 
 def levels_of(build, call):
     """The levels of the processors that run a build's call: its own, and those whose builds lack the call."""
-    own, having = BUILDS[build][0], [level for level, calls in BUILDS.values() if call in calls]
-    return [level for level, _ in BUILDS.values() if max([0, *[it for it in having if it <= level]]) == own]
+    own, those = next((it[build][0], it.values()) for it in BUILDS_OF.values() if build in it)
+    having = [level for level, calls in those if call in calls]
+    return [level for level, _ in those if max([0, *[it for it in having if it <= level]]) == own]
 
 
 def checked(made, build, call, most):
@@ -85,20 +89,22 @@ def checked(made, build, call, most):
                 words = branches(list(shown(image, build, call, most)))
                 said = f"{'every length' if most is None else f'0 to {most} bytes'}, {words}"
             executed |= image.executed
-        return f"x86-64-{build} {call}: {said}", True, executed
+        return f"{name_of(build)} {call}: {said}", True, executed
     except Refused as why:
-        return f"x86-64-{build} {call}: REFUSED: {why}", False, set()
+        return f"{name_of(build)} {call}: REFUSED: {why}", False, set()
 
 
 def functions(made, executed):
     """How many instructions of each function some path executed."""
-    image = Image(made)
-    code.assembles([image.instruction(at) for at in sorted(executed)])
+    image, builds = Image(made), "|".join(map(name_of, BUILDS)).replace("-", "_")
+    image.processor.confirms([image.instruction(at) for at in sorted(executed)])
     for at, (name, size) in sorted(image.functions.items(), key=lambda it: it[1]):
-        found = re.search(rf"x86_64_((?:{'|'.join(BUILDS)})_\w+?)(?:_of_c\w*)?$|^(faster_hex_[a-z_]+)$", name)
+        found = re.search(rf"_((?:{builds})_\w+?)(?:_of_c\w*)?$|^(faster_hex_[a-z_]+)$", name)
         those = image.instructions(at, size)
         if found:
-            yield f"{found[2] or 'x86-64-' + found[1]}: {len(those & executed)} of {len(those)} instructions executed"
+            said = found[1] or "_".join(filter(None, (image.processor.target, found[2])))
+            said = said.replace("x86_64_", "x86-64-")
+            yield f"{said}: {len(those & executed)} of {len(those)} instructions executed"
 
 
 def report(made, most, pairs, jobs=None):
@@ -114,20 +120,23 @@ def report(made, most, pairs, jobs=None):
 
 def pairs_of(made, words):
     """The builds and calls to check in a file, of those that are asked for."""
-    names = [it for it in Image(made).symbols if "_x86_64_v" in it]
+    names = [it for it in Image(made).symbols if re.match(r"faster_hex_\w+_(x86_64_v|aarch64_)", it)]
+    builds = BUILDS_OF[processor_of(made)]
     version = re.search(r'VERSION "(.*)"', (TOP / "crates/faster_hex_c/faster_hex.h").read_text())[1].replace(".", "_")
     if not names:
         raise ValueError("the library is not in it, or it was stripped")
     if others := [it for it in names if f"faster_hex_{version}_" not in it]:
         raise ValueError(f"it has another version: {others[0]}")
-    return [(build, call) for build in BUILDS for call in BUILDS[build][1] if [build, call][:len(words)] == words]
+    if words and words[0] not in builds:
+        raise ValueError("it is for another processor")
+    return [(build, call) for build in builds for call in builds[build][1] if [build, call][:len(words)] == words]
 
 
 def image_of(folder, file):
     """The linked file: this one, or what `ld` makes of an archive or an object."""
     file.read_bytes()
-    if {*re.findall(r"file format (\S+)", code.output("objdump", "-f", file))} - {"elf64-x86-64"}:
-        raise ValueError("it is not for x86-64")
+    if not processor_of(file):
+        raise ValueError("it is neither for x86-64 nor for aarch64")
     is_linked = re.search(r"^ +Type: +(EXEC|DYN)", code.output("readelf", "-hW", file), re.M)
     return file if is_linked else linked(Path(folder) / "image", file)
 
@@ -143,13 +152,19 @@ def check(folder, given):
 
 def record(folder, began=BEGAN, jobs=None):
     """Writes the record, if all is shown. If a source was changed after the tool began, it counts for nothing."""
-    begin, file = sums(), Path(folder) / "libfaster_hex.a"
-    subprocess.run(["make", "-s", "-C", TOP, "lib", "UNPROVED=", f"OUT={folder}", f"BUILT={folder}/built"], check=True)
-    made = linked(Path(folder) / "image", file)
-    said, lines, is_shown = report(made, None, pairs_of(made, []), jobs)
-    if not is_shown or any((TOP / it).stat().st_ctime_ns >= began for it in SOURCES):
-        raise Refused(next((it for it in said if "REFUSED" in it), "a source was changed meanwhile"))
-    (TOP / "generated/SHOWN").write_text(begin + "\n".join([*tools(file, made), *said, *lines]) + "\n")
+    text = sums()
+    for target in (it.target for it in BUILDS_OF):
+        out = Path(folder) / f"lib{target}"
+        words = "UNPROVED=", f"TARGET={target}", f"OUT={out}", f"BUILT={out}/built"
+        subprocess.run(["make", "-s", "-C", TOP, "lib", *words], check=True)
+        made = linked(out / "image", out / "libfaster_hex.a")
+        said, lines, is_shown = report(made, None, pairs_of(made, []), jobs)
+        if not is_shown:
+            raise Refused(next(it for it in said if "REFUSED" in it))
+        text += "\n".join([*tools(out / "libfaster_hex.a", made), *said, *lines]) + "\n"
+    if any((TOP / it).stat().st_ctime_ns >= began for it in SOURCES):
+        raise Refused("a source was changed meanwhile")
+    (TOP / "generated/SHOWN").write_text(text)
 
 
 def number(least, name, text):
@@ -167,7 +182,7 @@ def arguments(words):
                       help="how many calls are checked at the same time (as many as there are processors)")
     commands = parser.add_subparsers(dest="command", required=True, metavar="check | record")
     it = commands.add_parser("check", parents=[jobs], epilog=ends, help="check a file. This writes nothing.",
-                             description="Checks all calls in all builds for x86-64-v2 and above, or some of them.")
+                             description="Checks all calls in all builds for x86-64-v2 and above or aarch64, or some.")
     it.add_argument("file", type=Path, help="an archive of the library, or a linked file that contains it")
     it.add_argument("build", nargs="?", choices=BUILDS, help="the build to check")
     it.add_argument("call", nargs="?", choices=CALLS, metavar="call", help=f"the call to check: {', '.join(CALLS)}")

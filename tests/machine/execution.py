@@ -10,16 +10,13 @@ import re
 import z3
 
 from . import Refused, hexadecimal
-from .forms import level_of
-from .instructions import OPPOSITE, TABLE, condition
 from .loops import Loop, forget, forget_arguments, is_new
-from .operands import Step
-from .state import BASES, BEFORE, DESTINATION, INDEX, KEPT, RETURN, SEPARATOR, SOURCE, STACK, ids, indices, is_in
+from .state import BASES, DESTINATION, INDEX, RETURN, SEPARATOR, SOURCE, STACK, ids, indices, is_in
 from .values import MADE, X, Value, apply, is_proved, numbered, plus, unknown
 
-RED_ZONE, FRAME, NO_KIND = 128, 4096, -1
+FRAME, NO_KIND = 4096, -1
 # How many instructions a path may have, and the tried turns of a loop. Otherwise a wrong loop might have no end.
-MOST_STEPS = 20000
+MOST_STEPS, FEW_TURNS = 20000, 8
 
 
 def parts(term):
@@ -29,6 +26,17 @@ def parts(term):
             yield from parts(it)
     elif not z3.is_bv_value(term) or term.as_long():
         yield term
+
+
+def without_number(term):
+    """A term and a number whose sum is this term: a number that is added to others, and what the lowest bits are."""
+    numbers = [it for it in term.children() if z3.is_bv_value(it)] if z3.is_app_of(term, z3.Z3_OP_BADD) else []
+    number = term.as_signed_long() if z3.is_bv_value(term) else sum(it.as_signed_long() for it in numbers)
+    rest = z3.simplify(term - number)
+    *above, low = rest.children() if z3.is_app_of(rest, z3.Z3_OP_CONCAT) else [rest]
+    if above and z3.is_bv_value(low):
+        rest, number = z3.Concat(*above, z3.BitVecVal(0, low.size())), number + low.as_long()
+    return rest, number
 
 
 def conjuncts(term, is_negated=False):
@@ -82,11 +90,12 @@ class Machine:
 
     def __init__(self, image, length, writes, kind_of, facts, check_byte):
         self.image, self.length, self.writes, self.kind_of = image, length, writes, kind_of
+        self.processor = image.processor
         self.facts, self.check_byte, self.whole = facts, check_byte, ((z3.BitVecVal(0, 64), length.term),)
         self.is_fixed = length.number is not None
         # What is checked, the conditions that the definitions distinguish, and where the arguments end that have no
-        # register. They stand above the return address, and the call may change them.
-        self.call, self.cases, self.above = None, (), 8
+        # register. The call may change them.
+        self.call, self.cases, self.above = None, (), self.processor.above
         # The first part of each name of a byte, the address that was executed last, and how many bytes of frames were
         # read before something was written there.
         self.terms, self.at, self.unwritten = {}, None, 0
@@ -140,7 +149,7 @@ class Machine:
                 return False
             self.is_trying = True
             first = self.turn(state)
-            second = first and self.turn(first)
+            second = first and not self.is_short(state, first) and self.turn(first)
             self.is_trying = False
             if second:
                 self.loops.append(Loop(self, state, first, second))
@@ -148,6 +157,13 @@ class Machine:
             return True
         except Refused as why:
             raise Refused(f"in the loop at {state.at:#x}: {why}") from why
+
+    def is_short(self, state, first):
+        """Whether a loop has few turns, and only keeps what they have seen until it is left, so that each turn is to be
+        executed by itself: its condition is known, or what it counts down to zero is small."""
+        value, holds, _ = first.gap or (None, None, None)
+        is_kept = value and (len(first.valid), len(first.written)) == (len(state.valid), len(state.written))
+        return is_kept and (z3.is_true(holds.term) or self.is_shown(first, z3.ULE(value.term, FEW_TURNS)))
 
     def turn(self, state):
         """Tries to find a state after a turn of a loop. Nothing is shown on the way. If there is none, returns None."""
@@ -171,7 +187,7 @@ class Machine:
         """Executes an instruction. Returns False if the call has returned."""
         self.at = state.at
         read = self.image.instruction(self.at)
-        needed = level_of(read)
+        needed = self.processor.level_of(read)
         state.at = read.end
         state.passed.add(self.at)
         state.steps += 1
@@ -184,37 +200,25 @@ class Machine:
                 raise Refused("a path without an end")
             if not self.is_trying:
                 self.executed.add(self.at)
-            return self.performs(state, Step(self, state, read))
+            return self.processor.perform(self, state, read)
         except (AttributeError, IndexError, KeyError, TypeError, Refused, z3.Z3Exception) as why:
             raise Refused(f"{read.text} at {self.at:#x}: {why}") from why
 
-    def performs(self, state, step):
-        name = step.name
-        if name == "ret":
-            return self.returns(state, step.pop())
-        if name == "call":
-            step.push(self.image.address(state.at))
-            state.calls += state.at,
-        if name in ("jmp", "call"):
-            # A register may have the address of a place in the file.
-            base, at = self.place(step.get(0)) if step.operands[0].register else (self.image.base, step.number(0))
-            if base is not self.image.base:
-                raise Refused("jumps to somewhere else")
-            state.at = at
-            self.finds(state)
-        elif name[0] == "j":
-            self.branches(state, step, condition(state.flags, name[1:]))
-        else:
-            TABLE[step.name](step)
-        return True
+    def jumps(self, state, to):
+        base, state.at = self.place(to)
+        if base is not self.image.base:
+            raise Refused("jumps to somewhere else")
+        self.finds(state)
 
-    def branches(self, state, step, asked):
-        after, zero, loops, name = state.at, state.flags["z"], state.loops, step.name[1:]
+    def branches(self, state, asked, to, compared, names):
+        """Goes on at an address if a condition holds, otherwise after the instruction. The condition, which has one of
+        two names and its opposite the other one, compares a value with zero, if this is given."""
+        after, loops = state.at, state.loops
         outcomes = self.outcomes(state, asked)
         for it, holds in outcomes:
-            it.at = step.number(0) if holds else after
-            if zero and not asked.of:
-                it.gap = zero[1], *((asked, name) if holds else (apply(z3.Not, asked), OPPOSITE[name]))
+            it.at = to if holds else after
+            if compared and not asked.of:
+                it.gap = compared, *((asked, names[0]) if holds else (apply(z3.Not, asked), names[1]))
             for head, loop in loops.items() if not self.is_trying else ():
                 loop.exits += [] if head <= it.at <= self.image.loops[head] else [it.copy()]
         self.left += [it for it, _ in outcomes[1:]]
@@ -233,9 +237,13 @@ class Machine:
         if base is self.image.base:
             state.at, state.calls = at, state.calls[:-1]
             return True
-        if not to.is_same(RETURN) or self.place(state.registers["rsp"]) != (STACK, 8):
+        those = self.processor
+        if not to.is_same(RETURN) or self.place(state.registers[those.pointer]) != (STACK, those.above):
             raise Refused("returns to somewhere else")
-        if changed := [it for it in KEPT if not state.registers[it].is_same(BEFORE[it])]:
+        kept = {it: (state.registers[it], those.before[it]) for it in those.kept}
+        kept |= {f"byte {to} of vector {at}": (state.vectors[at][to], those.vectors[at][to])
+                 for at, places in those.kept_vectors.items() for to in places}
+        if changed := [name for name, (value, before) in kept.items() if not value.is_same(before)]:
             raise Refused(f"{changed[0]} is changed")
         return False
 
@@ -245,7 +253,7 @@ class Machine:
         terms = [it.term for it in (*self.facts, *state.facts)]
         for at, spans in enumerate(() if self.is_fixed else state.refused):
             it = z3.BitVec(f"invalid {at}", 64)
-            terms += [is_in(spans, it), z3.Not(is_in(state.valid, it))]
+            terms += [is_in(spans, it), z3.ULT(it, self.length.term), z3.Not(is_in(state.valid, it))]
         return terms
 
     def is_shown(self, state, *terms):
@@ -281,6 +289,17 @@ class Machine:
         other = state.copy()
         state.facts, other.facts = (*state.facts, asked), (*state.facts, apply(z3.Not, asked))
         return self.possible(state, [(state, True), (other, False)])
+
+    def decided(self, state, asked):
+        """Whether a condition holds, as a Value. If it does not depend on the bytes, it is known: this path takes one
+        of the outcomes, and if there is another one, another path executes this instruction again."""
+        if asked.of:
+            return asked
+        (_, holds), *others = self.outcomes(state, asked)
+        for it, _ in others:
+            it.at = self.at
+        self.left += [it for it, _ in others]
+        return Value(z3.BoolVal(holds))
 
     def possible(self, state, outcomes):
         """Those of these two outcomes that are not shown to be impossible. The first one becomes this state."""
@@ -356,15 +375,15 @@ class Machine:
 
     def end_of(self, state):
         """Where the frame ends, as a distance from the stack pointer at the beginning. It includes the red zone."""
-        return self.place(state.registers["rsp"])[1] - RED_ZONE
+        return self.place(state.registers[self.processor.pointer])[1] - self.processor.red_zone
 
     def lowers(self, state):
         """After a change of the stack pointer: it must be in a frame of at most a page. The bytes below the red zone
         are forgotten, because a signal handler may write there."""
-        base, at = self.place(state.registers["rsp"])
-        if base is not STACK or not -FRAME <= at <= 8:
+        base, at = self.place(state.registers[self.processor.pointer])
+        if base is not STACK or not -FRAME <= at <= self.processor.above or at % self.processor.aligned:
             raise Refused("the stack pointer leaves the frame")
-        state.stack = {it: value for it, value in state.stack.items() if it >= at - RED_ZONE}
+        state.stack = {it: value for it, value in state.stack.items() if it >= at - self.processor.red_zone}
 
     def load(self, state, address, size):
         if address.of and (state.refused or self.is_fixed):
@@ -395,9 +414,7 @@ class Machine:
                 self.settle(state)
                 forget_arguments(self, state)
         # The name of a byte is the term of the index without a number that is added, and this number.
-        numbers = [it for it in at.children() if z3.is_bv_value(it)] if z3.is_app_of(at, z3.Z3_OP_BADD) else []
-        number = at.as_signed_long() if z3.is_bv_value(at) else sum(it.as_signed_long() for it in numbers)
-        rest = z3.simplify(at - number)
+        rest, number = without_number(at)
         rest = self.terms.setdefault(rest.get_id(), rest).get_id()
         return [Value(X[0], ((rest, it),)) for it in range(number, number + size)]
 
@@ -419,7 +436,8 @@ class Machine:
         """Stores bytes in the frame or in the destination. In the destination of a call that decodes, this is refused
         until all digits are known to be valid. Each byte must be the one that the call has to write there."""
         base, at = self.place(address)
-        if base is STACK and (self.end_of(state) <= at <= -len(values) or 8 <= at <= self.above - len(values)):
+        if base is STACK and (self.end_of(state) <= at <= -len(values) or
+                              self.processor.above <= at <= self.above - len(values)):
             return state.stack.update(enumerate(values, at))
         if base is not DESTINATION:
             raise Refused("stores outside of destination and frame")

@@ -3,29 +3,40 @@ import re
 import subprocess
 from dataclasses import dataclass
 
-from . import Refused, code
+from . import Refused, aarch64, code, x86_64
 from .state import IMAGE, NONE
-from .values import apply, bytes_of, constant, plus
+from .values import bytes_of, constant, plus
 
-PAGE = 4096
+PAGE, PROCESSORS = 4096, (x86_64.PROCESSOR, aarch64.PROCESSOR)
 SYMBOL = re.compile(r" *\d+: (\w+) +(\w+) (\w+) +\w+ +\w+ +(\w+) ([^\s@]+)")
 SECTION = re.compile(r"\] (\S+) +PROGBITS +(\w+) (\w+) (\w+) (\w+) +(\w+)")
 SEGMENT = re.compile(r"^ +(LOAD|GNU_RELRO) +(\w+) (\w+) \w+ (\w+) (\w+) (.{3})", re.M)
 # What the loader writes: an address in the file, and anything else.
-RELOCATION = re.compile(r"^([0-9a-f]+) +[0-9a-f]+ R_X86_64_(\w+) +(\w+)", re.M)
+RELOCATION = re.compile(r"^([0-9a-f]+) +[0-9a-f]+ R_(?:X86_64|AARCH64)_(\w+) +(\w+)", re.M)
+
+
+def name_of(build):
+    return build if build == "aarch64" else f"x86-64-{build}"
+
+
+def processor_of(file):
+    """The processor that a file is for, or its members if it is an archive."""
+    found = {*re.findall(r"^ +Machine: +(.*)", code.output("readelf", "-hW", file), re.M)}
+    return next((it for it in PROCESSORS if found == {it.machine}), None)
 
 
 def linked(made, *objects):
     """Links all of these objects or archives into a file that can be loaded anywhere. A constant of one object is not
     put beside that of another one, because other linkers put other constants there. What the objects need of others is
     at addresses where nothing is known."""
-    defined = {it.split()[-1] for it in code.output("nm", "-A", "--defined-only", *objects).splitlines() if it}
-    needed = {it.split()[-1] for it in code.output("nm", "-Au", *objects).splitlines() if it}
+    tools = processor_of(objects[0]).tools
+    defined = {it.split()[-1] for it in code.output(f"{tools}nm", "-A", "--defined-only", *objects).splitlines() if it}
+    needed = {it.split()[-1] for it in code.output(f"{tools}nm", "-Au", *objects).splitlines() if it}
     others = sorted(needed - defined - {"_GLOBAL_OFFSET_TABLE_"})
     lines = [f".globl {it}; .hidden {it}; {it}: .skip 64" for it in others]
     outside, words = f"{made}.o", "--no-dynamic-linker -z text -z relro --unique=.rodata* -e 0 --whole-archive".split()
-    subprocess.run(["as", "-o", outside, "-"], input="\n".join([".bss", *lines, ""]), text=True, check=True)
-    subprocess.run(["ld", "-pie", *words, "-o", made, *objects, outside], check=True, stderr=subprocess.DEVNULL)
+    subprocess.run([f"{tools}as", "-o", outside, "-"], input="\n".join([".bss", *lines, ""]), text=True, check=True)
+    subprocess.run([f"{tools}ld", "-pie", *words, "-o", made, *objects, outside], check=True, stderr=subprocess.DEVNULL)
     return made
 
 
@@ -43,12 +54,13 @@ class Region:
 
 
 class Image:
-    """A linked file on a processor of a level, or of any level. A call for C chooses its build by this number, which
-    the library's constructor has stored. Addresses are distances from `base`, where the file is loaded: an unknown
-    multiple of a page, or 0 if the file can't be moved."""
+    """A linked file on a processor of a level, or of any level. On x86-64 a call for C chooses its build by this
+    number, which the library's constructor has stored. Addresses are distances from `base`, where the file is loaded:
+    an unknown multiple of a page, or 0 if the file can't be moved."""
 
     def __init__(self, path, level=None):
         self.data, text = path.read_bytes(), code.output("readelf", "-hlSsW", path)
+        self.processor = processor_of(path)
         self.base = IMAGE if re.search(r"^ +Type: +DYN", text, re.M) else NONE
         self.level, self.levels = level, set()
         # The addresses of each name, and the name and size of each function by its address.
@@ -57,7 +69,7 @@ class Image:
         self.constants = [*self.read_sections(text)]
         self.relocated = self.read_relocations(path)
         # The text of each instruction by its address, and the terms of table look-ups by the number of theirs.
-        self.texts, self.tables = code.instructions(path), {}
+        self.texts, self.tables = self.processor.texts(path), {}
         # The addresses that were executed, and by the head of each loop that was found that of its last jump back.
         self.executed, self.loops = set(), {}
         # Where the own functions begin of the build that is checked, and with which states a call has come there on
@@ -107,12 +119,12 @@ class Image:
         """The addresses at which a build's call is to be checked: that of the call for C, if it has one, which takes
         its build by the level, and then those of the build's own functions that this has not executed."""
         # A program may have the own functions of the C library and those of another one.
-        pattern, name = re.compile(rf"\w+_x86_64_{build}_{call}(_of_c)?(_unproved)?"), f"faster_hex_{call}"
-        own = {at for it, places in self.symbols.items() if pattern.fullmatch(it) for at in places}
+        pattern, name = rf"\w+_{name_of(build)}_{call}(_of_c)?(_unproved)?".replace("-", "_"), f"faster_hex_{call}"
+        own = {at for it, places in self.symbols.items() if re.fullmatch(pattern, it) for at in places}
         called = self.symbols.get(name, set()) if has_name else set()
         if not own:
             raise Refused("the file does not have it")
-        if called and not self.levels:
+        if called and self.processor.has_levels and not self.levels:
             raise Refused(f"the file has {name}, but not the variable `level` of dispatch.c")
         if has_name and not called and any("_of_c" in it for it in self.symbols):
             raise Refused(f"the file has the library for C, but not {name}")
@@ -154,9 +166,9 @@ class Image:
         made, text = self.texts[at]
         if self.bytes_at(at, len(made)) != made:
             raise Refused(f"the instruction at {at:#x} is not what is loaded")
-        return code.instruction(at, made, text)
+        return self.processor.instruction(at, made, text)
 
     def instructions(self, begin, size):
         """The addresses in a function that some path should execute. The others fill space, or nothing comes there."""
         return {at for at in range(begin, begin + size) if at in self.texts and
-                not code.NOP.fullmatch(self.texts[at][1]) and self.texts[at][1] not in ("int3", "ud2")}
+                not self.processor.is_space(self.texts[at][1])}

@@ -16,15 +16,17 @@ follows a path to a state that is compared with the definitions. This holds for 
   and nothing depends on how it is made. An induction on k shows that it stands for each arrival at the head: at the
   entry it is the state for k = 0, and 0 < N. Each path from it back to the head ends as the state for k + 1, and
   k + 1 < N. Arithmetic is that of 64 bits, so a sum that wraps is seen. Paths that leave the loop go on from the
-  general state. As k + 1 < N is shown for each further turn, there are at most N turns.
+  general state. As k + 1 < N is shown for each further turn, there are at most N turns. A loop that gets no general
+  state is executed turn by turn, as if it were written out.
 - *Forgetting.* A state that says less stands for more executions.
 - *Joins.* A joined state stands for the executions of both states. What it says of facts, valid digits, written bytes
   and calls that have not returned is what both say, because only states that agree in these are joined. A register, a
   byte of a vector or of the stack that differs is unknown. One that only one state has is forgotten. Flags and masks
-  are forgotten before states are compared. If failed tests differ, they are replaced by one of the whole source, which
-  says less. The number of branches is the greater one. The name of an unknown has the loop's turn or the place of the
-  join in it. A state has each turn once and is joined once at each place, so no two unknowns of a state share a name. A
-  joined state is explored in the same run, unless it is the earlier one, which has been or will be.
+  are forgotten before states are compared, but for flags with a known value, in which they agree. If failed tests
+  differ, they are replaced by one of the whole source, which says less. The number of branches is the greater one. The
+  name of an unknown has the loop's turn or the place of the join in it. A state has each turn once and is joined once
+  at each place, so no two unknowns of a state share a name. A joined state is explored in the same run, unless it is
+  the earlier one, which has been or will be.
 - *Ends of paths.* A path ends at the head of a loop whose general state it comes from, where it is joined, or where the
   call returns. It cannot go through a join and a loop without end: a path forgets at most twice, once when a digit is
   found to be invalid and once when all are known to be valid, since only then joins are made, and between two of these
@@ -40,13 +42,12 @@ import z3
 
 from . import Refused
 from .state import INDEX, LENGTH, difference, ids, is_in
+from .terms import ZERO, always, never
 from .values import Value, apply, unknown
 
 # The tests of longer sources may be in turns of loops, and what is learned on the way through them is forgotten.
 SHORT = 256
 IS_LONG = z3.UGT(LENGTH.term, SHORT)
-# The conditions for another turn that also hold if the two values are equal.
-INCLUSIVE = "ae", "be", "ge", "le", "ns"
 
 
 class Loop:
@@ -103,7 +104,7 @@ class Loop:
         if not step:
             raise Refused("a loop without a counter")
         way = value.term if step < 0 else -value.term
-        size, begin = z3.BitVecVal(abs(step), 64), int(name not in INCLUSIVE)
+        size, begin = z3.BitVecVal(abs(step), 64), int(name not in self.machine.processor.inclusive)
         bound = z3.UDiv(way + abs(step), size) if name == "ne" else \
             z3.If(holds.term, z3.UDiv(way - begin, size) + 2, z3.BitVecVal(1, 64))
         return Value(z3.simplify(z3.ULT(self.turn, bound)))
@@ -162,7 +163,6 @@ def forget_arguments(machine, state):
     as between which digits the separator is, are forgotten."""
     known = [it for case in machine.cases for it in (case, apply(z3.Not, case)) if machine.is_shown(state, it.term)]
     state.facts, state.is_general = tuple(known), True
-    state.forget_flags()
 
 
 def is_new(machine, state):
@@ -173,10 +173,15 @@ def is_new(machine, state):
         return True
     # What is on the stack as a number is often a constant or a flag, so it must be the same.
     numbers = tuple([(at, it.number) for at, it in sorted(state.stack.items())])
-    key = state.at, state.calls, numbers, len(state.refused), *map(ids, (state.facts, state.valid, state.written))
+    # If the length is one number, a branch may still need flags that were set before, whose value is then known.
+    flags = {it: apply(*flag).term for it, flag in state.flags.items() if flag} if machine.is_fixed else {}
+    flags = {it: (always, ZERO) if z3.is_true(term) else (never, ZERO) for it, term in flags.items()
+             if z3.is_true(term) or z3.is_false(term)}
+    key = state.at, state.calls, numbers, len(state.refused), *map(ids, (state.facts, state.valid, state.written)), \
+        tuple(flags.items())
     state.joins |= {state.at}
-    # The instruction that was executed last may have set flags after the state has forgotten them.
     state.forget_flags()
+    state.flags |= flags
     before = machine.joined.get(key)
     if before and join(machine, state, before):
         return False

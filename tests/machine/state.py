@@ -7,7 +7,7 @@ import copy
 
 import z3
 
-from .values import Value, bytes_of, constant, is_proved, unknown
+from .values import Value, constant, is_proved, unknown
 
 # Where source, destination and stack begin, and where the file with the library is loaded.
 SOURCE, DESTINATION, STACK, IMAGE = BASES = [
@@ -15,15 +15,6 @@ SOURCE, DESTINATION, STACK, IMAGE = BASES = [
 LENGTH, ROOM = Value(z3.BitVec("length", 64)), Value(z3.BitVec("room", 64))
 POLICY, SEPARATOR = Value(z3.BitVec("policy", 8)), Value(z3.BitVec("separator", 8))
 RETURN, NONE, INDEX = unknown("return", 8), constant(0, 8), z3.BitVec("index", 64)
-# The names of each register, for 8, 4, 2 and 1 of its bytes.
-NAMED = [[f"r{at}{end}" for end in ("", "d", "w", "b")] for at in range(8, 16)]
-NAMED += [["r" + it, "e" + it, it, it.strip("x") + "l"] for it in ("ax", "cx", "dx", "bx", "sp", "bp", "si", "di")]
-# By each name, the register and how many of its bytes it means.
-REGISTERS = {name: (it[0], size) for it in NAMED for name, size in zip(it, (8, 4, 2, 1))}
-KEPT = "rbx", "rbp", "r12", "r13", "r14", "r15"
-BEFORE = {it[0]: unknown(it[0], 8) for it in NAMED} | {"rsp": STACK}
-VECTOR = 64
-VECTORS = [bytes_of(unknown(f"vector {it}", VECTOR)) for it in range(16)]
 
 # In its model all variables are 0.
 EMPTY = z3.Solver()
@@ -62,11 +53,11 @@ class State:
     So loops.py must treat each field that is read later: the first two groups are compared or become unknown, and the
     others stand under their comment."""
 
-    def __init__(self, at):
+    def __init__(self, at, processor):
         self.at = at
         # The values in places: registers, the bytes of vectors, and bytes of the stack.
-        self.registers, self.vectors = {**BEFORE}, [[*it] for it in VECTORS]
-        self.stack = dict(enumerate(bytes_of(RETURN)))
+        self.registers, self.vectors = {**processor.before}, [[*it] for it in processor.vectors]
+        self.stack = {**processor.stack}
         # The flags, and the 64 bits of each mask register that was written. They are forgotten there.
         self.flags, self.masks = dict.fromkeys("czso"), {}
         # Conditions on public values that hold; the spans of the source that are valid digits; for each test that
@@ -99,7 +90,7 @@ class State:
 
     def put(self, values):
         self.registers = {it: values[it] for it in self.registers}
-        self.vectors = [[values[at, to] for to in range(VECTOR)] for at in range(len(self.vectors))]
+        self.vectors = [[values[at, to] for to in range(len(it))] for at, it in enumerate(self.vectors)]
         self.stack = {it: value for it, value in values.items() if type(it) is int}
 
     def forget_flags(self):

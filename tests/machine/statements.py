@@ -14,8 +14,6 @@ from .values import X, Value, apply, bytes_of, constant, is_proved, joined, unkn
 DONE, ODD_LENGTH, TOO_SMALL, INVALID, OVERFLOW, UNKNOWN_POLICY = range(6)
 # Stands for every number that is no policy.
 OTHER = 3
-# The registers of the first arguments, in their order.
-REGISTERS = "rdi", "rsi", "rdx", "rcx", "r8", "r9"
 CALLS = {
     "check": "source length", "check_with_case": "source length policy", "first_invalid": "source length policy",
     "encode": "source length destination room upper", "decode": "source length destination room",
@@ -60,9 +58,10 @@ class Shown:
         kind_of = None if self.is_encoding else kind_of
         self.machine = Machine(image, self.length, self.writes.term, kind_of, facts, self.check_byte)
         self.machine.cases, self.machine.call = self.cases(), (self.call, self.policy, self.is_upper)
-        state, words = State(at), CALLS[self.call].split()
-        state.registers.update(zip(REGISTERS, map(self.argument, words)))
-        for word in words[len(REGISTERS):]:
+        processor = self.machine.processor
+        state, words = State(at, processor), CALLS[self.call].split()
+        state.registers.update(zip(processor.arguments, map(self.argument, words)))
+        for word in words[len(processor.arguments):]:
             state.stack.update(enumerate(bytes_of(self.argument(word)), self.machine.above))
             self.machine.above += 8
         self.ends = self.machine.run(state)
@@ -122,13 +121,14 @@ class Shown:
         return self.machine.covers(state, (*state.valid, *others), self.length.term)
 
     def check_answer(self, state, status, number):
-        """Compares a struct: the number is in rax, the status and the byte are in rdx."""
-        rax, rdx = state.registers["rax"], bytes_of(state.registers["rdx"])
-        if not self.is_equal(state, rdx[0], z3.BitVecVal(status, 8)):
+        """Compares a struct: the number is in a register, the status and the byte are in another one."""
+        found, others = (state.registers[it] for it in self.machine.processor.answer)
+        others = bytes_of(others)
+        if not self.is_equal(state, others[0], z3.BitVecVal(status, 8)):
             raise Refused("answers another status")
         if status == INVALID:
-            self.check_invalid(state, rax, rdx[1])
-        elif not self.is_equal(state, rdx[1], z3.BitVecVal(0, 8)) or not self.is_equal(state, rax, number.term):
+            self.check_invalid(state, found, others[1])
+        elif not self.is_equal(state, others[1], z3.BitVecVal(0, 8)) or not self.is_equal(state, found, number.term):
             raise Refused("answers another number or byte")
         elif status == DONE and not self.is_encoding and not self.is_valid(state):
             raise Refused("does not look at all digits")
@@ -144,8 +144,8 @@ class Shown:
 
     def check_bool(self, state, status):
         """Checks that the result is true exactly if all digits are valid."""
-        al = bytes_of(state.registers["rax"])[0]
-        is_true, is_false = (apply(operator.eq, al, constant(it, 1)) for it in (1, 0))
+        answer = bytes_of(state.registers[self.machine.processor.answer[0]])[0]
+        is_true, is_false = (apply(operator.eq, answer, constant(it, 1)) for it in (1, 0))
         if not apply(z3.Not, is_true).is_same(is_false):
             raise Refused("answers neither true nor false")
         if status == DONE and not self.is_valid(state):

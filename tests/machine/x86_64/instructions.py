@@ -1,24 +1,18 @@
 """The effect of each instruction, for symbolic execution. TABLE maps a mnemonic, without the v of AVX, to a function
 that performs the instruction on a Step of operands.py, if it has one of the forms of forms.py. test_machine.py runs
-each of them on the processor too, and compares the results.
-
-Operands are bit vectors of Z3. There, `<`, `>` and `>>` take the highest bit for a sign, while ULT and LShR do not."""
+each of them on the processor too, and compares the results."""
 import operator
 from functools import partial
 
-from z3 import And, BitVecVal, BoolVal, Extract, If, LShR, Not, Or, SignExt, UDiv, ULT, URem, Xor, ZeroExt
+from z3 import And, BitVecVal, BoolVal, Extract, If, LShR, Or, UDiv, ULT, URem, Xor, ZeroExt
 
-from . import Refused
-from .values import Value, apply, bytes_of, concat, constant, joined
+from .. import Refused
+from ..terms import SIGNED, ZERO, alternated, are_all_zero, bits_and_not, by_lanes, carry_of_sum, chosen, \
+    is_negative, lanes_of, lesser, never, overflow_of_difference, overflow_of_sum, saturated_difference, spread
+from ..values import Value, apply, bytes_of, concat, constant, joined
 
-ZERO = constant(0, 1)
 
-
-# Functions from terms to terms. They stand here by name, since values.py makes and keeps a term by its function.
-
-def bits_and_not(a, b):
-    return ~a & b
-
+# Functions from terms to terms, as in terms.py.
 
 def have_common_bit(a, b):
     """The bit 1 if some bit is set in both, otherwise 0."""
@@ -28,14 +22,6 @@ def have_common_bit(a, b):
 def saturate_word(word):
     """A signed word as an unsigned byte: 0 if it is below 0, and 255 if it is above 255."""
     return If(word < 0, BitVecVal(0, 8), If(word > 255, BitVecVal(255, 8), Extract(7, 0, word)))
-
-
-def chosen(control, *lanes):
-    """The lane that the lowest bits of a control lane name."""
-    found = lanes[0]
-    for at in range(1, len(lanes)):
-        found = If(control & len(lanes) - 1 == at, lanes[at], found)
-    return found
 
 
 def shuffle_byte(control, *lane):
@@ -51,24 +37,6 @@ def ternary_logic(number, a, b, c):
         is_way = (a if way & 4 else ~a) & (b if way & 2 else ~b) & (c if way & 1 else ~c)
         result = result | If(Extract(way, way, number) == 1, is_way, BitVecVal(0, 8))
     return result
-
-
-# A number with a sign, and so many bytes more.
-SIGNED = {it: partial(SignExt, 8 * it) for it in range(1, 8)}
-
-
-# Functions that give a flag. In the state of a path a flag is such a function with its operands.
-
-def never(*_):
-    return BoolVal(False)
-
-
-def is_negative(term):
-    return term < 0
-
-
-def are_all_zero(*terms):
-    return And(*[it == 0 for it in terms])
 
 
 def are_all_one(*terms):
@@ -90,39 +58,27 @@ def overflow_with_carry(a, b, carry):
 
 # The result, the carry flag and the overflow flag of two operands, and of the carry flag for `adc`.
 ARITHMETIC = {
-    "add": (operator.add, lambda a, b: ULT(a + b, a), lambda a, b: (~(a ^ b) & (a ^ (a + b))) < 0),
-    "sub": (operator.sub, ULT, lambda a, b: ((a ^ b) & (a ^ (a - b))) < 0),
+    "add": (operator.add, carry_of_sum, overflow_of_sum), "sub": (operator.sub, ULT, overflow_of_difference),
     "and": (operator.and_, never, never), "andn": (bits_and_not, never, never),
     "or": (operator.or_, never, never), "xor": (operator.xor, never, never),
     "adc": (add_with_carry, carry_with_carry, overflow_with_carry),
 }
-# Each condition as a function of flags: c for carry, z for zero, s for sign, o for overflow.
+# Each condition as a function of flags.
 CONDITIONS = {"b": (And, "c"), "e": (And, "z"), "be": (Or, "cz"), "s": (And, "s"), "l": (Xor, "so"),
               "le": (lambda zero, sign, overflow: Or(zero, Xor(sign, overflow)), "zso")}
 OPPOSITES = {"ae": "b", "ne": "e", "a": "be", "ns": "s", "ge": "l", "g": "le"}
-EACH = *CONDITIONS, *OPPOSITES
 # For each condition the one that holds if it does not.
 OPPOSITE = OPPOSITES | {other: it for it, other in OPPOSITES.items()}
+CONDITIONS |= OPPOSITES
 # For two vectors, lane by lane: the bytes of a lane, and the function.
 LANES = {
     "paddb": (1, operator.add), "psubb": (1, operator.sub), "paddw": (2, operator.add), "pmullw": (2, operator.mul),
     "paddusb": (1, lambda a, b: If(ULT(a + b, a), BitVecVal(255, 8), a + b)),
-    "psubusb": (1, lambda a, b: If(ULT(a, b), BitVecVal(0, 8), a - b)),
-    "pminub": (1, lambda a, b: If(ULT(a, b), a, b)), "pmaxub": (1, lambda a, b: If(ULT(a, b), b, a)),
+    "psubusb": (1, saturated_difference), "pminub": (1, lesser), "pmaxub": (1, lambda a, b: If(ULT(a, b), b, a)),
     "por": (1, operator.or_), "pand": (1, operator.and_), "pxor": (1, operator.xor), "xorps": (1, operator.xor),
 }
 # AVX-512 has a name for each size of a lane that a mask would be for. Without a mask they do the same.
 LANES |= {name + size: LANES[name] for name in ("pand", "por", "pxor") for size in "dq"}
-
-
-# Lists of bytes. Each byte is a Value, and the lowest byte comes first.
-
-def lanes_of(values, size):
-    return [values[at:at + size] for at in range(0, len(values), size)]
-
-
-def spread(values):
-    return [byte for value in values for byte in bytes_of(value)]
 
 
 # Instructions that write their first operand. Each function returns the bytes that are written.
@@ -141,8 +97,7 @@ def broadcast(size, step):
 
 
 def lanewise(size, function, step):
-    both = zip(*[lanes_of(it, size) for it in step.sources()])
-    return spread([apply(function, joined(a), joined(b)) for a, b in both])
+    return by_lanes(function, size, *step.sources())
 
 
 def shift_lanes(size, function, step):
@@ -163,8 +118,7 @@ def shuffle_bytes(values, controls):
 
 def unpack(size, begin, a, b):
     """Alternates lanes of so many bytes of two vectors, from the eight bytes that begin there."""
-    both = zip(lanes_of(a[begin:begin + 8], size), lanes_of(b[begin:begin + 8], size))
-    return [it for x, y in both for it in x + y]
+    return alternated(size, a[begin:begin + 8], b[begin:begin + 8])
 
 
 def shuffle_lanes(size, step):
@@ -295,16 +249,6 @@ def shift(function, step):
         step.set(value)
 
 
-def condition(flags, name):
-    """Whether a condition holds. A flag that is not modelled is refused."""
-    if name in OPPOSITES:
-        return apply(Not, condition(flags, OPPOSITES[name]))
-    function, needed = CONDITIONS[name]
-    if any(flags[it] is None for it in needed):
-        raise Refused("a flag is not defined")
-    return apply(function, *[apply(*flags[it]) for it in needed])
-
-
 def choose_if(name, step):
     """cmovCC: the second operand if the condition holds, otherwise the first. setCC: the byte 1 or 0."""
     holds, is_move = step.condition(name), len(step.operands) == 2
@@ -374,7 +318,7 @@ TABLE = {
     "cdqe": lambda step: step.write_register("rax", bytes_of(
         apply(SIGNED[4], joined(bytes_of(step.state.registers["rax"])[:4])))),
     "shl": partial(shift, operator.lshift), "shr": partial(shift, LShR), "sar": partial(shift, operator.rshift),
-    **{begin + it: partial(choose_if, it) for begin in ("set", "cmov") for it in EACH},
+    **{begin + it: partial(choose_if, it) for begin in ("set", "cmov") for it in CONDITIONS},
     "ptest": test_bits, "ptestmd": test_lanes, "kortestw": test_masks, 
     "push": lambda step: step.push(constant(step.number(0), 8) if step.operands[0].number is not None else step.get(0)),
     "kmovq": lambda step: step.set(apply(concat, *step.state.masks[step.operands[1].register])),

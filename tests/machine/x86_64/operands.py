@@ -1,10 +1,10 @@
 """An instruction that is executed: how it reads and writes its operands."""
-import z3
-
-from . import Refused
-from .instructions import ZERO, condition
-from .state import NONE, REGISTERS, STACK, VECTOR
-from .values import Value, apply, bytes_of, constant, joined, plus
+from .. import Refused
+from ..state import NONE, STACK
+from ..terms import ZERO, condition
+from ..values import apply, bytes_of, constant, joined, plus
+from .code import REGISTERS
+from .instructions import CONDITIONS, OPPOSITE, TABLE
 
 
 def address_of(base, index, scale, distance):
@@ -38,16 +38,7 @@ class Step:
         return self.size(0 if self.vector(0) else 1)
 
     def condition(self, name):
-        """Whether a condition on the flags holds, as a Value. If it does not depend on the bytes, it is known: this
-        path takes one of the outcomes, and if there is another one, another path executes this instruction again."""
-        said = condition(self.state.flags, name)
-        if said.of:
-            return said
-        (_, holds), *others = self.machine.outcomes(self.state, said)
-        for it, _ in others:
-            it.at = self.instruction.at
-        self.machine.left += [it for it, _ in others]
-        return Value(z3.BoolVal(holds))
+        return self.machine.decided(self.state, condition(self.state.flags, CONDITIONS, name))
 
     def address(self, at):
         base, index, scale, distance = self.operands[at].address
@@ -74,7 +65,7 @@ class Step:
             self.is_aligned(0, len(values))
             self.machine.store(self.state, self.address(0), values)
         elif vector := self.vector(0):
-            vector[:] = values + ([ZERO] * (VECTOR - len(values)) if self.is_vex else vector[len(values):])
+            vector[:] = values + ([ZERO] * (len(vector) - len(values)) if self.is_vex else vector[len(values):])
         else:
             self.write_register(self.operands[0].register, values)
 
@@ -122,3 +113,23 @@ class Step:
         self.state.registers["rsp"] = plus(end, 8)
         self.machine.lowers(self.state)
         return value
+
+
+def perform(machine, state, instruction):
+    """Executes an instruction. Returns False if the call has returned."""
+    step = Step(machine, state, instruction)
+    name = step.name
+    if name == "ret":
+        return machine.returns(state, step.pop())
+    if name == "call":
+        step.push(machine.image.address(state.at))
+        state.calls += state.at,
+    if name in ("jmp", "call"):
+        # A register may have the address of a place in the file.
+        machine.jumps(state, step.get(0) if step.operands[0].register else machine.image.address(step.number(0)))
+    elif name[0] == "j":
+        said, zero = condition(state.flags, CONDITIONS, name[1:]), state.flags["z"]
+        machine.branches(state, said, step.number(0), zero and zero[1], (name[1:], OPPOSITE[name[1:]]))
+    else:
+        TABLE[name](step)
+    return True
