@@ -1,11 +1,12 @@
 """The portable calls in C and in Rust. They are compared with the builds on random calls, and pass the tests of the
-builds, on this processor and under qemu on processors without a build."""
+builds, on this processor and under qemu on processors without a build. With a fault they fail."""
 import os
+import shutil
 
 import pytest
 
-from commands import (BESIDE, CC, CRATE, STRICT, TESTS_IN_C, compiled, make_beside, names_build, needs, passes, ran,
-                      runs, tries)
+from commands import (BESIDE, BUILT, CC, CRATE, STRICT, TESTS_IN_C, compiled, make_beside, names_build, needs, passes,
+                      ran, runs, tries)
 from packages import OF_SERDE, lacking, packed, without
 
 # A compiler, the command that runs its programs, and the folder of the library.
@@ -17,6 +18,14 @@ I386 = "qemu-i386 -L /usr/i686-linux-gnu -E LD_LIBRARY_PATH=/usr/i686-linux-gnu/
 TARGETS |= {"i686-linux-gnu-gcc": (I386, "i686")}
 # Targets without C's standard library, which the portable calls do not need.
 FREESTANDING = "wasm32", "powerpc64le-linux-gnu", "aarch64-windows-gnu", "aarch64-none-elf -mgeneral-regs-only"
+# Faults of the plain C that only destinations that can't be written, and lengths that no text has, show.
+FAULTS = {
+    "a refused decoding stores what was there": (
+        "if (found.status != FASTER_HEX_DONE) return found;",
+        "if (found.status != FASTER_HEX_DONE) return room == 0 ? found : (*(volatile uint8_t *)dst ^= 0, found);"),
+    "a text that no size_t counts is reported as too little room": (
+        "return answer_of(FASTER_HEX_OVERFLOW, 0);", "return answer_of(FASTER_HEX_OUTPUT_TOO_SMALL, SIZE_MAX);"),
+}
 
 
 def test_random_calls_beside_the_builds(tmp_path, library):
@@ -33,6 +42,16 @@ def test_in_c(tmp_path, compiler, words):
     assert b"faster_hex_1_0_0" not in (BESIDE / folder / "libfaster_hex.a").read_bytes()
     tries(tmp_path, compiler, BESIDE / folder / "libfaster_hex.a", "-DFASTER_HEX_PORTABLE", runner, words)
     names_build(tmp_path, compiler, BESIDE / folder / "libfaster_hex.a", "portable", runner)
+
+
+@pytest.mark.parametrize("fault", ["", *FAULTS])
+def test_fault(tmp_path, fault):
+    text, (old, new) = (CRATE / "portable.h").read_text(), FAULTS.get(fault, ("", ""))
+    shutil.copytree(CRATE, tmp_path / "crate")
+    (tmp_path / "crate/portable.h").write_text(text.replace(old, new))
+    words = *BUILT, "-DFASTER_HEX_PORTABLE", TESTS_IN_C / "library.c", tmp_path / "crate/dispatch.c"
+    done = ran([compiled(CC, tmp_path / "library", *words)])
+    assert (text.count(old) == 1 and done.returncode) if fault else done.returncode == 0
 
 
 @pytest.mark.parametrize("standard", ["c99", "c11"])

@@ -1,5 +1,5 @@
 /* Converts bytes to hex digits and back. faster_hex(3) says how to compile and link. C++17 can include faster_hex.hpp,
- * which has encode and decode for types of C++, and throws errors as exceptions.
+ * which has encode, decode and decode_spaced for types of C++, and throws errors as exceptions.
  *
  * Example, which decodes a key of 16 bytes from `len` digits at `text`:
  *
@@ -30,8 +30,8 @@
  * - gcc and clang warn if a result that says whether a call failed is not used.
  *
  * What is known: the source is proved to return and write what this header says, for lengths below 2^63. The assembly
- * compiled from it is tested, and on Linux from x86-64-v2 on most of it was also checked against a definition of hex.
- * Where there is no assembly, plain C is used, which is not proved. For keys, see faster_hex(3).
+ * compiled from it is tested. For Linux on aarch64 and from x86-64-v2 on, most was also checked against a definition of
+ * hex. Where there is no assembly, plain C is used, which is not proved. For keys, see faster_hex(3).
  */
 #ifndef FASTER_HEX_H
 #define FASTER_HEX_H
@@ -175,11 +175,12 @@ const char *faster_hex_status_text(uint8_t status);
  * check that the code was made from the proved sources. Returns a static string; do not free it. */
 const char *faster_hex_version(void);
 
-/* Names the build that the next call uses: "x86-64", "x86-64-v2", "x86-64-v3", "x86-64-v4", "x86-64-vbmi", which is
- * "x86-64-v4" with AVX-512 VBMI, "aarch64" or "portable", which is plain C. Later versions may have other builds. Calls
- * that the builds for AVX-512 do not have use the build "x86-64-v3". While the program is being loaded, calls may still
- * use the build "x86-64". A program can ask before it handles keys, because only the builds whose names begin with
- * "x86-64-v" were checked to be constant time, on Linux. Returns a static string; do not free it. */
+/* Names the build that the library has chosen: "x86-64", "x86-64-v2", "x86-64-v3", "x86-64-v4", "x86-64-vbmi" (which is
+ * "x86-64-v4" with AVX-512 VBMI), "aarch64", or "portable" (which is plain C). Later versions may have other builds. A
+ * call that a build for AVX-512 does not have uses "x86-64-v3". While the program is being loaded, calls may still use
+ * the build "x86-64". A program can ask before it handles keys, because the calls for keys were checked to be constant
+ * time only in the build "aarch64" and in those whose names begin with "x86-64-v", on Linux. Returns a static string;
+ * do not free it. */
 const char *faster_hex_build(void);
 
 #ifdef __clang__

@@ -147,5 +147,11 @@ template <class... Values> std::enable_if_t<(is_no_length<Values> || ...)> decod
 
 } // namespace faster_hex
 
+/* In C++ these calls do not compile with a character, such as ':', for the number of bytes in a group. */
+template <class Every> std::enable_if_t<std::is_same_v<Every, char>> faster_hex_encode_grouped(
+    const void *, std::size_t, void *, std::size_t, bool, Every, uint8_t) = delete;
+template <class Every> std::enable_if_t<std::is_same_v<Every, char>> faster_hex_decode_grouped(
+    const void *, std::size_t, void *, std::size_t, uint8_t, Every, uint8_t) = delete;
+
 #endif
 #endif

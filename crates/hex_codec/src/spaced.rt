@@ -18,8 +18,8 @@ use std::simd::prelude::*;
 // The number of bytes that are searched at once for the end of a run.
 const LANES: usize = 32;
 
-// A longer run counts as several runs, so its end is not searched. So many digits are decoded without the
-// call of another function.
+// The longest run. A longer one counts as several runs, so its end is not searched. The digits of one run
+// are decoded without the call of another function.
 const LONGEST_RUN: usize = 192;
 
 /// Decodes the digits of `src` into the start of `dst`, if `case` accepts them. Skips ASCII white
@@ -209,7 +209,7 @@ fn invalid_error(src: &[u8], case: CheckCase) -> Error
 }
 
 // Returns the number of bytes before the first byte that is at most a space, as all white space is, but
-// at most `LONGEST_RUN`. The first byte of the source counts in any case.
+// at most `LONGEST_RUN`. The first byte of the source always counts, even if it is white space.
 #[inline(never)]
 fn run_len(src: &[u8]) -> usize
     requires { 0 < length src.now }
@@ -262,7 +262,7 @@ fn decode_runs(plan: Backend, src: &[u8], dst: &mut [u8], case: CheckCase)
     }
 }
 
-// Decodes lines at the start of a source into the start of `dst`, as long as each begins with so many
+// Decodes lines at the start of a source into the start of `dst`, as long as each begins with `pairs`
 // pairs of digits. Returns the number of bytes read and of those written. There are loops of their own
 // for usual lengths, as in `check_lines`.
 #[inline(never)]
@@ -281,7 +281,7 @@ fn decode_lines(
         17..=32 => decode_lines_of(plan, src, dst, pairs, case),
         33..=64 => decode_lines_of(plan, src, dst, pairs, case),
         65..=96 => decode_lines_of(plan, src, dst, pairs, case),
-        // No run has more.
+        // No run has more than 96 pairs.
         _ => (0, 0),
     }
 }

@@ -1,5 +1,5 @@
-//! The maps of the plan `plain`. Each of them looks the lanes of a vector up in a *row*, a table that
-//! fits a register. So the time does not depend on the lanes, which may be secret.
+//! The maps of the plan `plain`. All but `ShortRows::nibbles` look the lanes of a vector up in a *row*, a
+//! table that fits a register, and not in memory, because the lanes may be secret.
 #![tactic(auto, using(crate::proofs::ByteLemmas::bytes))]
 
 ghost use Rattle.std.specs.Prelude.{◌≡◌, ◌↔◌, ◌≤◌, ℕ};

@@ -290,7 +290,7 @@ impl Decoder {
         !self.reading.skips || Backend::plain().check(src, self.reading.case)
     }
 
-    // Returns how many pairs are completed by so many more digits.
+    // Returns how many pairs of digits are whole once `digits` more of them are fed.
     fn whole_pairs(&self, digits: usize) -> usize
         ensures { result ≡ (length (waiting_in self.now) + digits) / 2 }
     {
