@@ -30,7 +30,7 @@
 //! | digits at the end of a string that you have (`alloc`) | `hex_append`, `hex_append_upper` |
 //! | bytes in a new vector (`alloc`) | `hex_decode_vec`, `hex_decode_vec_with_case` |
 //! | a field of a `serde` type (`serde`) | the modules below |
-//! | to know whether the calls are constant time | [`hex_build`] |
+//! | to know the build, before the first key | [`hex_build`] |
 //!
 //! A call that reads digits accepts lowercase and uppercase letters, also mixed. A call whose name ends with
 //! `_with_case` has a parameter [`CheckCase`], which can permit only one case.
@@ -40,7 +40,8 @@
 //! - Each byte becomes two digits, in the order of the bytes. Leading zeros stay, because the digits
 //!   are not read as a number.
 //! - Decoding takes all of its source: an even number of digits. `0x`, white space, separators and everything else
-//!   that is no digit are errors. Only [`hex_decode_spaced`] skips white space. You need not test the digits first.
+//!   that is no digit are errors. Only [`hex_decode_spaced`] and [`hex_decode_spaced_with_case`] skip white space.
+//!   You need not test the digits first.
 //! - An empty source is valid.
 //! - If several things are wrong, a call returns the [`Error`] that comes first in the order that its page lists.
 //! - [`hex_check`] tests each byte, but not how many there are, so it accepts an odd number of digits.
@@ -159,14 +160,19 @@ pub use crate::error::Error;
 /// Names the build that the calls use on this processor, so that a program can refuse to handle keys where the
 /// crate is not constant time. You need not make another call first.
 ///
-/// The name is `x86-64`, `x86-64-v2`, `x86-64-v3`, `x86-64-v4`, `x86-64-vbmi`, which is `x86-64-v4` with AVX-512
-/// VBMI, `aarch64` or `portable`, which is plain Rust. Later versions may have other builds. Calls that the builds for
-/// AVX-512 do not have use `x86-64-v3`. `x86-64` looks bytes up in tables. What was examined is the assembly of the
-/// builds whose names begin with `x86-64-v`, on Linux: valid digits of one length take the same branches and use the
-/// same addresses.
+/// The name is `x86-64`, `x86-64-v2`, `x86-64-v3`, `x86-64-v4`, `x86-64-vbmi` (which is `x86-64-v4` with AVX-512
+/// VBMI), `aarch64`, or `portable` (which is plain Rust). Later versions may have other builds. Calls that the
+/// builds for AVX-512 do not have use `x86-64-v3`. `x86-64` looks bytes up in tables.
+///
+/// The calls for keys are `hex_encode`, `hex_string`, `hex_decode`, `hex_decode_vec`, `hex_decode_array`, `hex_check`,
+/// and their variants whose names end with `_with_case` or `_upper`. On Linux, they were examined in `aarch64` and in
+/// the builds whose names begin with `x86-64-v`: valid digits of one length take the same branches and use the same
+/// addresses.
 ///
 /// ```
-/// let may_have_keys = faster_hex::hex_build().starts_with("x86-64-v");
+/// let build = faster_hex::hex_build();
+/// let is_examined = build == "aarch64" || build.starts_with("x86-64-v");
+/// let may_have_keys = cfg!(target_os = "linux") && is_examined;
 /// # let _ = may_have_keys;
 /// ```
 #[must_use]
