@@ -1,5 +1,5 @@
 -- Sources that come in chunks.
-use Rattle.std.proofs.Common.{◌≡◌, ℕ, ◌+◌, ◌*◌, ◌/◌, ◌^◌, ◌<◌, ◌≤◌, Bool, true, false, List, [], ◌∷◌, ◌++◌, length, length-append}
+use Rattle.std.proofs.Common.{◌≡◌, ◌⊎◌, inl, inr, ℕ, ◌+◌, ◌*◌, ◌/◌, ◌^◌, ◌<◌, ◌≤◌, Bool, true, false, List, [], ◌∷◌, ◌++◌, length, length-append}
 use Rattle.std.proofs.Common.{take, drop, length-drop, ◌-◌, slice_index, Option, Some, None, Result, Ok, Err, MatchResult}
 use Rattle.std.proofs.Common.{refl, sym, ◌∙◌, ap, append_assoc, arith}
 use Rattle.std.specs.Prelude.{◌↔◌, option_map, IsSome}
@@ -22,7 +22,7 @@ use Rattle.hex_core.proofs.LawProofs.{valid-spelled}
 use Rattle.hex_core.proofs.PositionLemmas.{none_joined, position-joined}
 use Rattle.hex_core.proofs.SearchLemmas.{none_valid}
 use Rattle.hex_codec.proofs.ListLemmas.{put-behind}
-use Rattle.hex_codec.proofs.SpacedLemmas.{none-invalid-spaced, unspaced-le}
+use Rattle.hex_codec.proofs.SpacedLemmas.{digits-solid, none-invalid-spaced, unspaced-le}
 use Rattle.hex_io.specs.Decoder.{feed_refusal, pairs_more}
 use Rattle.hex_io.specs.Reading.{SpellsBut, digits_in, first_invalid_read, is_invalid_read}
 use Rattle.hex_codec.specs.Spaced.{is_solid}
@@ -51,6 +51,13 @@ digits-valid c false s = (λ none. none, λ none. none)
 pub none-invalid : (c : CheckCase) (skips : Bool) (s : List ℕ) → let r : Reading = record { case = c; skips = skips } in
     first_invalid c (digits_in r s) ≡ None → first_invalid_read r s ≡ None
 none-invalid c skips s valid = (digits-valid c skips s).1 valid
+
+-- a valid chunk has no white space, so it is its own digits
+pub digits-own : (c : CheckCase) (skips : Bool) (digits s : List ℕ) → let r : Reading = record { case = c; skips = skips } in
+    (digits ≡ s) ⊎ (digits ≡ digits_in r s) → first_invalid c digits ≡ None → digits ≡ digits_in r s
+digits-own c true digits s (inl whole) valid = whole ∙ sym (digits-solid c s (rw whole at valid))
+digits-own c false digits s (inl whole) valid = whole
+digits-own c skips digits s (inr own) valid = own
 
 -- ---- single digits
 

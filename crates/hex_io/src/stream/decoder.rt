@@ -10,7 +10,7 @@
 //! assert_eq!(rt; text.as_slice(), b"00abcd".as_slice());
 //! ```
 
-ghost use Rattle.std.specs.Prelude.{◌≡◌, ◌≢◌, ◌↔◌, ◌+◌, ◌-◌, ◌/◌, ◌%◌, ◌^◌, ◌<◌, ◌≤◌, ◌++◌, ◌∷◌, [], None, Ok, Some, drop, false, true, length, IfOk, IsSome, IsTrue, MatchOption, OnErr};
+ghost use Rattle.std.specs.Prelude.{◌≡◌, ◌≢◌, ◌↔◌, ◌⊎◌, ◌+◌, ◌-◌, ◌/◌, ◌%◌, ◌^◌, ◌<◌, ◌≤◌, ◌++◌, ◌∷◌, [], None, Ok, Some, drop, false, true, length, IfOk, IsSome, IsTrue, MatchOption, OnErr};
 ghost use Rattle.std.specs.Option.{ForSome, option_to_list};
 ghost use Rattle.hex_core.specs.Digit.{value};
 ghost use Rattle.hex_core.specs.Search.{first_invalid};
@@ -151,8 +151,11 @@ impl Decoder {
         ensures reading { reading_of self.new ≡ reading_of self.old }
         ensures unchanged { OnErr result ((self.new ≡ self.old) × (dst.new ≡ dst.old)) }
     {
-        if self.has_digits_alone(src) {
+        if !self.reading.skips {
             return self.feed_digits(src, src, dst);
+        }
+        if let Some(written) = self.feed_valid(src, src, dst) {
+            return Ok(written);
         }
         if src.len() > SPACED_BLOCK {
             return self.feed_long(src, dst);
@@ -173,8 +176,11 @@ impl Decoder {
         ensures bound { IfOk result (λ n. n ≤ length dst.new) }
         ensures reading { reading_of self.new ≡ reading_of self.old }
     {
-        if self.has_digits_alone(src) {
+        if !self.reading.skips {
             return self.feed_digits(src, src, dst);
+        }
+        if let Some(written) = self.feed_valid(src, src, dst) {
+            return Ok(written);
         }
         self.feed_spaced(src, buffer, dst)
     }
@@ -263,31 +269,41 @@ impl Decoder {
         ensures reading { reading_of self.new ≡ reading_of self.old }
         ensures unchanged { OnErr result ((self.new ≡ self.old) × (dst.new ≡ dst.old)) }
     {
-        let Some(position) = self.position.checked_add(src.len()) else {
-            return Err(Error::Overflow);
-        };
+        if let Some(written) = self.feed_valid(src, digits, dst) {
+            return Ok(written);
+        }
+        let _end = self.position.checked_add(src.len()).ok_or(Error::Overflow)?;
         let required = self.whole_pairs(digits.len());
         if dst.len() < required {
             return Err(Error::OutputTooSmall { required });
         }
-        let Some(waiting) = decode_pairs(self.waiting, digits, dst, self.reading.case) else {
-            return Err(self.error_in(src));
-        };
+        Err(self.error_in(src))
+    }
+
+    // Feeds a chunk that has no error. Otherwise returns `None` and changes nothing. The digits given are
+    // those of the chunk, or the chunk itself, because if all of it is valid, it has no white space.
+    fn feed_valid(&mut self, src: &[u8], digits: &[u8], dst: &mut [u8]) -> Option<usize>
+        requires digits { (digits.now ≡ src.now) ⊎ (digits.now ≡ digits_in (reading_of self.old) src.now) }
+        ensures feeds { MatchOption result ((self.new ≡ self.old) × (dst.new ≡ dst.old))
+            (λ n. Feeds self.old self.new src.now dst.old dst.new (Ok n)) }
+        ensures bound { ForSome result (λ n. n ≤ length dst.new) }
+        ensures refused { result ≡ None → position_of self.old + length src.now < 2 ^ 64
+            → (length (waiting_in self.old) + length digits.now) / 2 ≤ length dst.old
+            → first_invalid self.old.reading.case digits.now ≢ None }
+        ensures reading { reading_of self.new ≡ reading_of self.old }
+    {
+        let position = self.position.checked_add(src.len())?;
+        let required = self.whole_pairs(digits.len());
+        if dst.len() < required {
+            return None;
+        }
+        let waiting = decode_pairs(self.waiting, digits, dst, self.reading.case)?;
         *self = Decoder {
             reading: self.reading,
             position,
             waiting,
         };
-        Ok(required)
-    }
-
-    // Returns whether the digits of a chunk are the chunk itself, so that none must be copied. If
-    // white space is skipped, the result is false also for a chunk with an invalid byte.
-    fn has_digits_alone(&self, src: &[u8]) -> bool
-        ensures alone { IsTrue result → digits_in (reading_of self.now) src.now ≡ src.now }
-        ensures spaced { result ≡ false → self.now.reading.skips ≡ true }
-    {
-        !self.reading.skips || Backend::plain().check(src, self.reading.case)
+        Some(required)
     }
 
     // Returns how many pairs of digits are whole once `digits` more of them are fed.
