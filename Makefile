@@ -189,7 +189,7 @@ endif
 BESIDE = $(shell $(PYTEST) --help 2>&1 | grep -q -- --numprocesses && echo '--numprocesses $(JOBS) --dist loadgroup')
 check: all
 	$(or $(PYTEST),$(error make check takes pytest: apt-get install python3-pytest)) $(BESIDE) tests
-	$(call ENDED,what the summary says; the gate; mutations; examples)
+	$(call ENDED,what the summary says; what make test does with the Rattle toolchain)
 
 # For a release. It stops at the first part that fails.
 deep: all
@@ -198,7 +198,7 @@ deep: all
 	scripts/examples --prove
 	cd tests && /usr/bin/python3 -m machine record
 	$(MAKE) check
-	$(call ENDED,what the summary says; the gate)
+	$(call ENDED,what the summary says; what make test does with the Rattle toolchain)
 
 # Packs the last commit, with changed files as they are now. The package has the same bytes on every machine.
 TO = .

@@ -165,9 +165,9 @@ pub use crate::error::Error;
 /// builds for AVX-512 do not have use `x86-64-v3`. `x86-64` looks bytes up in tables.
 ///
 /// The calls for keys are `hex_encode`, `hex_string`, `hex_decode`, `hex_decode_vec`, `hex_decode_array`, `hex_check`,
-/// and their variants whose names end with `_with_case` or `_upper`. On Linux, they were examined in `aarch64` and in
-/// the builds whose names begin with `x86-64-v`: valid digits of one length take the same branches and use the same
-/// addresses.
+/// and their variants whose names end with `_with_case` or `_upper`. On Linux, the assembly that they run was examined
+/// in `aarch64` and in the builds whose names begin with `x86-64-v`: valid digits of one length take the same branches
+/// and use the same addresses. The Rust code around the assembly was tested for four of these calls, on x86-64.
 ///
 /// ```
 /// let build = faster_hex::hex_build();
