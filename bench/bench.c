@@ -9,7 +9,7 @@
 
 // The rounds of a size are spread over the whole run, because a shared machine is slow for some seconds at a time.
 #define PASSES 20
-// Each pass uses another place of the stack, so many bytes below the last one. Twenty passes cover a page.
+// Each pass uses another place of the stack, PLACE bytes below the last one. Twenty passes cover a page.
 #define PLACE 208
 #define PAGE 4096
 #define ROUNDS 12
@@ -153,7 +153,7 @@ static void fill(void) {
     }
 }
 
-// Puts colons between groups of so many bytes of a text, and returns its new length.
+// Puts colons between groups of `every` bytes of a text, and returns its new length.
 static size_t group(uint8_t *to, const uint8_t *text, size_t size, size_t every) {
     size_t at = 0;
     for (size_t i = 0; i < size; i++) {
@@ -166,12 +166,12 @@ static size_t group(uint8_t *to, const uint8_t *text, size_t size, size_t every)
     return at;
 }
 
-// The bytes of a group, which are the number at the end of the name of a grouped call.
+// Returns the number of bytes in a group, which is at the end of the name of a grouped call.
 static size_t every_of(const struct call *call) {
     return strtoul(strrchr(call->name, '_') + 1, NULL, 10);
 }
 
-// The text in mixed case, in groups. The texts of fewer bytes are the beginnings of it.
+// Returns a task with the text in mixed case, in groups. The texts of fewer bytes are prefixes of one text.
 static struct task grouped(size_t every, size_t size) {
     static uint8_t texts[17][3 * LARGEST];
     if (!texts[every][0]) {
@@ -189,7 +189,7 @@ static struct task task_of(const struct call *call, size_t size) {
     }
 }
 
-// Whether a call gives the right answer and writes nothing else.
+// Returns whether a call gives the right answer and writes nothing else.
 static bool is_right(const struct call *call, size_t size) {
     static uint8_t wanted[3 * LARGEST];
     struct task task = task_of(call, size);
@@ -203,7 +203,7 @@ static bool is_right(const struct call *call, size_t size) {
     }
 }
 
-// The nanoseconds that some calls take one after the other.
+// Returns the nanoseconds that `turns` calls take, one after the other.
 static double spent(const struct call *call, const struct task *task, long turns) {
     struct timespec start, end;
     clock_gettime(CLOCK_MONOTONIC, &start);
@@ -214,8 +214,8 @@ static double spent(const struct call *call, const struct task *task, long turns
 
 // Times the calls of one kind alternately, so that all of them meet the same state of the machine. A turn of a call is
 // so long that the time of reading the clock does not matter. It runs once before it is timed, because a processor may
-// first have to power up its wide vectors. After wide vectors a processor may be slower for a while. Each round has
-// another order, so that this does not always affect the same calls.
+// first have to power up its wide vectors. Each round has another order, because a processor may be slower for a while
+// after wide vectors, which would otherwise always affect the same calls.
 static void measure(enum kind kind, size_t at_size, size_t place) {
     struct task tasks[CALLS];
     size_t order[CALLS], count = 0;
@@ -245,10 +245,10 @@ static void measure(enum kind kind, size_t at_size, size_t place) {
     }
 }
 
-// Measures with the stack so many bytes lower. A call with a buffer on the stack took up to a seventh longer for some
+// Measures with the stack `below` bytes lower. A call with a buffer on the stack took up to a seventh longer for some
 // places of the stack, and without this function the place would be the same for a whole run. A likely cause is that a
 // load waits for a store whose address has the same lowest twelve bits. So the output too is moved within a page, by a
-// multiple of 64: otherwise it would have these bits in common with each source.
+// multiple of 64: otherwise its address would share these bits with that of each source.
 static void measure_below(size_t below, enum kind kind, size_t at_size) {
     volatile char room[below];
     room[0] = 0;

@@ -21,7 +21,7 @@ static __attribute__((constructor)) void fill(void) {
     }
 }
 
-// The number of bytes of the group that begins here. The last group may be shorter.
+// Returns the number of bytes in the group that begins here. The last group may be shorter.
 static inline size_t least(size_t every, size_t left) {
     return every < left ? every : left;
 }

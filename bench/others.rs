@@ -1,7 +1,7 @@
 //! Times encoding into a buffer and decoding from lowercase digits by our Rust crate, which is the crate `ours` here,
 //! by our library for C, and by other libraries. Each decoding accepts both letter cases. OpenSSL encodes in uppercase,
-//! all others in lowercase. Before that it checks what the calls write. It prints a line for each call, library and
-//! number of decoded bytes: `encode by hex 0.4.3<TAB>bytes<TAB>ns`.
+//! all others in lowercase. Before it times a call, it checks what the call writes. It prints a line for each call,
+//! library and number of decoded bytes: `encode by hex 0.4.3<TAB>bytes<TAB>ns`.
 //!
 //! A library is left out unless bench/run gives `--cfg` with its name.
 

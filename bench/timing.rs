@@ -41,7 +41,7 @@ macro_rules! loops {
     ($($shown:literal $name:ident($task:ident) $call:expr;)*) => {
         $(
             fn $name<const NOPS: usize, const N: usize>($task: &mut Task, turns: usize) {
-                // SAFETY: this does nothing.
+                // SAFETY: `nop` does nothing.
                 unsafe { std::arch::asm!(".p2align 6", ".rept {}", "nop", ".endr", const NOPS) };
                 for _ in 0..turns {
                     std::hint::black_box($call);
@@ -86,7 +86,7 @@ impl Cell {
     }
 }
 
-/// All data. A task has a part of them.
+/// All data, of which a task has a part.
 struct Data {
     bytes: Vec<u8>,
     lower: Vec<u8>,

@@ -24,7 +24,7 @@ BUILDS = [
     ("x86-64-vbmi", "x86_64", "x86-64-v3", 5),
     ("aarch64", "aarch64", "generic", 2),
 ]
-# The jobs of a proof from nothing. Each job reads all libraries, so that more would take longer.
+# The number of parallel jobs of a proof from nothing. Each job reads all libraries, so more jobs would take longer.
 JOBS = str(min(4, len(os.sched_getaffinity(0))))
 # A program has one build for each architecture.
 OF_PROGRAMS = [it for it in BUILDS if it[0] in ("x86-64-v2", "aarch64")]

@@ -11,8 +11,8 @@ cd "$(dirname "$0")/.."
 
 # absolute FOLDER: prints its absolute path, without double slashes. A relative path counts from the repository.
 absolute() { case $1 in /*) echo "$1" ;; *) echo "$PWD/$1" ;; esac | sed 's|//*|/|g; s|\(.\)/$|\1|'; }
-# place FILE COMMAND..: removes the file. Unless this is --remove, it then runs the command, with the file's name as its
-# last argument, to make the file.
+# place FILE COMMAND..: removes the file. Without --remove it then runs the command, with the file's name as its last
+# argument, to make the file.
 place() {
     to=${DESTDIR-}$1
     shift

@@ -7,8 +7,8 @@
 { edits += gsub(/call i8 @"faster_hex_c::level"\(\)/, "add i8 0, " level) }
 
 # Levels 4 and 5 were proved for the processor of level 3, because `rattle` knows no processor with AVX-512. From here
-# on clang may use AVX-512, and at level 5 also AVX-512 VBMI. It makes slower code of some calls with it, so these are
-# no longer exported, and clang removes them.
+# on clang may use AVX-512, and at level 5 also AVX-512 VBMI. Some calls are slower with AVX-512, so these calls are no
+# longer exported, and clang removes them.
 BEGIN { wide = "\"target-cpu\"=\"x86-64-v4\"" (level == 5 ? " \"target-features\"=\"+avx512vbmi\"" : "") }
 level >= 4 { sub(/"target-cpu"="x86-64-v3"/, wide) }
 level >= 4 && /^define .*@faster_hex_(encode|decode_grouped|first_invalid)/ { sub(/^define /, "define internal ") }
@@ -25,8 +25,8 @@ level == 5 && /^define .*@"hex_core::widths::look_up_row_of_64"\(/ {
     look_ups++
     is_replaced = 1
 }
-# The functions that look up long rows, and two functions with all short paths, are inlined there, as those of the other
-# builds are. The toolchain ignores the mark for it, because with both maps the functions would be too long.
+# At level 5, the functions that look up long rows, and two functions with all short paths, are inlined, as those of the
+# other builds are. The toolchain ignores their `inline`, because with both maps they would be too long.
 level == 5 && /^define internal .*@"hex_core::(plain::(check|decode)_by_long_rows|widths::look_up_long.*)"\(/ {
     hints += sub(/ #[0-9]+ \{$/, " alwaysinline&")
 }
@@ -46,7 +46,7 @@ END {
     print "!llvm.module.flags = !{!9999}\n!9999 = !{i32 8, !\"" mark "\", i32 1}"
 }
 
-# The text that the toolchain writes may change. Then it must not pass without the edits.
+# If the toolchain writes another text one day, it must not pass without the edits.
 END {
     found = "calls of `level`: " edits + 0 ", functions `look_up_row_of_64`: " look_ups + 0 ", inlined: " hints + 0
     wanted = "calls of `level`: 1, functions `look_up_row_of_64`: " (level == 5 ? "1, inlined: 5" : "0, inlined: 0")

@@ -35,15 +35,15 @@ FNR == 1 {
     code = in_text ? "\"" $0 : $0
     gsub(/"[^"]*"/, "`", code)
     sub(/".*/, "`", code)
-    # Macros and derives see doc comments. So these stay from a call of several lines on, and from a derive on that does
-    # not belong to the language.
+    # Macros and derives see doc comments. So all doc comments stay that follow a call of several lines, or a derive
+    # that is not of the language.
     names = "((Clone|Copy|Debug|Drop|Eq|Hash|PartialEq)(, )?)+"
     if (leaves_open(code) || code ~ /derive/ && code !~ "^ *#[[]derive[(]" names "[)][]]$") has_documents = 1
     if (has_documents) printf "%s", held
     held = ""
     print "\t" $0
-    # Without these, each quotation mark begins or ends a text, each brace counts, and no comment goes over the end of
-    # the line.
+    # In a line without these, each quotation mark begins or ends a text, each brace counts, and no comment goes on
+    # behind the line.
     if (/'"'|\\"/ || code ~ /\/\/|\/[*]|r`|r#|--|[{]-/) is_unclear = 1
     in_text = (in_text + gsub(/"/, "")) % 2
     # What stands in the braces of a clause is antt, in which `//` may be a name.

@@ -29,9 +29,9 @@
  *   does not export the calls.
  * - gcc and clang warn if a result that says whether a call failed is not used.
  *
- * What is known: the source is proved to return and write what this header says, for lengths below 2^63. The assembly
- * compiled from it is tested. For Linux on aarch64 and from x86-64-v2 on, most was also checked against a definition of
- * hex. Where there is no assembly, plain C is used, which is not proved. For keys, see faster_hex(3).
+ * What is known: the library's source code is proved to return and write what this header says, for lengths below
+ * 2^63. The assembly is tested, and for Linux on aarch64 and from x86-64-v2 on, its code for digits alone was compared
+ * with a definition of hex. Plain C, where there is no assembly, is not proved. For keys, see faster_hex(3).
  */
 #ifndef FASTER_HEX_H
 #define FASTER_HEX_H

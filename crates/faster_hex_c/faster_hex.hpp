@@ -136,8 +136,8 @@ template <class Digits> [[nodiscard]] std::vector<unsigned char> decode_spaced(c
     return faster_hex_build();
 }
 
-/* Whether a call would take a value of this type for a length, although it is none: a truth value, and the number of a
- * policy for C. */
+/* Whether a value of this type is no length, but would be converted to one: a truth value, or the number of a policy
+ * for C. */
 template <class Value> inline constexpr bool is_no_length =
     std::is_same_v<Value, bool> || std::is_same_v<Value, decltype(FASTER_HEX_EITHER_CASE)>;
 

@@ -1,5 +1,4 @@
-//! Writes a line of a dump, as `xxd -g` prints it without its column of text. The function is
-//! proved.
+//! Writes a line of a dump as `xxd -g` prints it, without the column of text. The function is proved.
 
 ghost use Rattle.std.specs.Prelude.{◌≡◌, ◌++◌, ◌∷◌, []};
 ghost use Rattle.hex_core.specs.Text.{lowercase, text};

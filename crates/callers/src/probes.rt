@@ -1,4 +1,4 @@
-//! A probe that a user has written, and searches. Each function is proved.
+//! A probe as a user might write it, and a search with it. Each function is proved.
 
 ghost use Rattle.std.specs.Prelude.{◌≡◌};
 ghost use Rattle.hex_core.specs.Search.{first_invalid, steps};

@@ -1,6 +1,6 @@
-//! Six modules for optional bytes. Each of them reads and writes `Some` in the format of one module
-//! of bytes, and `None` as `null`. `null` has no error. Any other value has the errors of that
-//! module, in the same order. The example of [`option_nopfx_lowercase`] calls all functions of a
+//! Six modules for optional bytes. Each of them reads and writes `Some` in the format of one module of
+//! bytes, and `None` as `null`. Reading `null` never fails. For any other value the errors are those of
+//! that module, in the same order. The example of [`option_nopfx_lowercase`] calls all functions of a
 //! module.
 
 ghost use Rattle.std.specs.Prelude.{None, Some, option_map};

@@ -72,7 +72,7 @@ fn policy(number: u8) -> Option<CheckCase>
     }
 }
 
-// The answer for an unknown policy.
+// The answer if a number names no policy.
 const NO_POLICY: Answer = Answer {
     number: 0,
     status: UNKNOWN_POLICY,
@@ -98,7 +98,7 @@ fn answer_of(outcome: Result<usize, Error>) -> Answer
     }
 }
 
-// The answer for numbers that make no group.
+// The answer if the arguments make no group.
 const NO_GROUP: Answer = Answer {
     number: 0,
     status: NOT_A_GROUP,
@@ -130,7 +130,7 @@ fn level() -> u8 {
 }
 
 // Returns the plan that all functions use. Few programs run the build for processors without byte
-// shuffles. So that build takes `scalar`, the plan with the least code.
+// shuffles, so it takes `scalar`, the plan with the least code.
 #[inline(always)]
 fn plan() -> Backend {
     let [scalar, ..] = backends();

@@ -257,8 +257,8 @@ pub fn hex_decode_vec_with_case<A: Allocator + Drop>(
     Ok(bytes)
 }
 
-// A buffer of more bytes is decoded block by block, so that the source is read only once. If a byte
-// is invalid, the buffer is then partly written. This does no harm, because the caller discards it.
+// A buffer of more bytes is decoded block by block, so that the source is read only once. An invalid
+// byte leaves it partly written, which does no harm, because the caller then discards it.
 const OWNED_OVER: usize = 1024;
 
 // Decodes `src` over all of `dst`. On an error `dst` may be partly written, and the caller discards

@@ -66,7 +66,7 @@ impl fmt::Display for GroupFault {
 
 impl error::Error for GroupFault {}
 
-// Returns the number of bytes that have a grouped text of `len` bytes, if there is one.
+// Returns the number of bytes whose grouped text has `len` bytes, if there is one.
 #[inline(always)]
 fn byte_count(len: usize, every: usize) -> Option<usize>
     requires { 0 < every }
@@ -123,7 +123,7 @@ pub fn read_into(
     read_front(src, dst, group, case)
 }
 
-// Does the same as `read_into`, with only the clause that `read` needs.
+// Does the same as `read_into`, with only the clause of its contract that `read` needs.
 fn read_front(
     src: &[u8],
     dst: &mut [u8],
@@ -280,7 +280,7 @@ pub fn write_with_room(src: &[u8], dst: &mut [u8], group: Group, upper: bool) ->
     write_fitting(Backend::plain(), src, dst, group, upper)
 }
 
-// Encodes `src` in groups, where there is room. Pieces of 1 and of 4 bytes have code of their own.
+// Encodes `src` in groups into a destination with room. Pieces of 1 and 4 bytes have their own code.
 fn write_fitting(plan: Backend, src: &[u8], dst: &mut [u8], group: Group, upper: bool) -> usize
     requires { grouped_len (piece_len group) (length src.now) ≤ length dst.old }
     ensures { WritesGrouped group upper src.now dst.old dst.new (Ok result) }

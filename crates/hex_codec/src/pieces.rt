@@ -1,5 +1,5 @@
-//! Loops over the pieces of a grouped text, which test it, decode it or encode it by a plan. No
-//! separator follows the last piece, so it is treated after each loop.
+//! Loops over the pieces of a grouped text, which test, decode or encode the text by a plan. No
+//! separator follows the last piece, so it is handled after each loop.
 
 ghost use Rattle.std.specs.Prelude.{◌≡◌, ◌≤◌, ◌<◌, ◌*◌, ◌%◌, None, Ok, length};
 ghost use Rattle.hex_core.specs.Search.{first_invalid};
@@ -27,7 +27,7 @@ fn first_invalid(plan: Backend, digits: &[u8], case: CheckCase) -> Option<usize>
     plan.first_invalid(digits, case)
 }
 
-// Decodes the digits of a piece, which are valid.
+// Decodes the digits of a piece, which must be valid.
 #[inline(always)]
 fn read_piece(plan: Backend, digits: &[u8], bytes: &mut [u8], case: CheckCase)
     requires twice { length digits.now ≡ 2 * length bytes.old }

@@ -105,9 +105,9 @@ fn survey(plan: Backend, src: &[u8], case: CheckCase) -> (usize, bool)
     (count, is_clean)
 }
 
-// Checks lines at the start of a source, as long as each has `len` digits. Returns the number of their
-// bytes and of their digits. For lengths that are usual the compiler makes a loop of their own, which
-// does not look at the length again.
+// Checks lines from the start of a source on, up to the first one that does not have `len` valid digits.
+// Returns the number of bytes and of digits in the lines before that one. For usual lengths the compiler
+// makes loops of their own, in which the length is not compared again.
 #[inline(never)]
 fn check_lines(plan: Backend, src: &[u8], len: usize, case: CheckCase) -> (usize, usize)
     requires some { 0 < len }
@@ -194,7 +194,7 @@ fn first_invalid_spaced(src: &[u8], case: CheckCase) -> Option<usize>
     src.iter().position(|byte| !byte.is_ascii_whitespace() && digit_value(*byte, case).is_none())
 }
 
-// Returns the error for that byte.
+// Returns the error for the byte that `first_invalid_spaced` finds.
 #[cold]
 fn invalid_error(src: &[u8], case: CheckCase) -> Error
     requires { first_invalid_spaced case src.now ≢ None }
@@ -262,9 +262,9 @@ fn decode_runs(plan: Backend, src: &[u8], dst: &mut [u8], case: CheckCase)
     }
 }
 
-// Decodes lines at the start of a source into the start of `dst`, as long as each begins with `pairs`
-// pairs of digits. Returns the number of bytes read and of those written. There are loops of their own
-// for usual lengths, as in `check_lines`.
+// Decodes lines from the start of a source on into the start of `dst`, up to the first one that does not
+// have `pairs` pairs of digits. Returns the number of bytes read and the number written. Usual lengths
+// have loops of their own, as in `check_lines`.
 #[inline(never)]
 fn decode_lines(
     plan: Backend,
@@ -312,7 +312,7 @@ fn decode_lines_of(
     (at, done)
 }
 
-// Decodes a run over all of `dst`. Returns false and writes nothing if it has no digits or a byte that
+// Decodes a run over all of `dst`. Returns false and writes nothing if the run is empty or has a byte that
 // is no digit.
 #[inline(always)]
 fn decode_run(plan: Backend, src: &[u8], dst: &mut [u8], case: CheckCase) -> bool

@@ -279,8 +279,8 @@ impl Backend {
         self.decode(&src[2 * at..2 * end], &mut dst[at..end], case)
     }
 
-    // Decodes `src` over all of `dst` in blocks that decode to `SIZE` bytes. It returns false at
-    // the first block with an invalid byte, and the bytes of the blocks before it are then written.
+    // Decodes `src` over all of `dst` in blocks that decode to `SIZE` bytes. Returns false at the first
+    // block with an invalid byte. The bytes of the blocks before that block are then written already.
     #[inline(always)]
     fn decode_each_block<const SIZE: usize>(
         self,

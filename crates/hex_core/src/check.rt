@@ -51,7 +51,7 @@ pub fn check_four<M: Rows<N>, const N: usize>(src: &[u8], case: CheckCase) -> bo
     let second = M::marks(Simd::<u8, N>::from_slice(&src[N..]), case);
     let last = M::marks(Simd::<u8, N>::from_slice(&src[src.len() - N..]), case);
     let mut front = or(first, second);
-    // If there are at most 3 * N bytes, the last block reaches the second one.
+    // With at most 3 * N bytes, the last block begins within the second one or right after it.
     if src.len() > 3 * N {
         let third = Simd::<u8, N>::from_slice(&src[src.len() - 2 * N..]);
         front = or(front, M::marks(third, case));

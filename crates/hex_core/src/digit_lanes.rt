@@ -1,4 +1,4 @@
-//! The arithmetic of the maps, which does the same in each lane of a vector. It says which bytes are
+//! The arithmetic of the maps, which is the same in each lane of a vector. It tests which bytes are
 //! valid digits, and replaces digits by their values.
 #![tactic(auto, using(crate::proofs::ByteLemmas::bytes))]
 
@@ -18,7 +18,7 @@ use crate::vector::{
 use crate::widths::{Lanes, Shift, Shuffle};
 use std::simd::prelude::*;
 
-// Both tables are indexed by the policy. A look-up saves the kernels a branch.
+// Both tables are indexed by the policy, which saves the maps a branch.
 static FOLDS: [u8; 3] = [0x20, 0, 0];
 
 static FIRST_LETTERS: [u8; 3] = [b'a', b'a', b'A'];
@@ -103,8 +103,8 @@ fn check_row(case: CheckCase) -> u8x16
     u8x16::from_array(CHECK_ROWS[case as u8 as usize])
 }
 
-// Returns the hash of each lane. Its low four bits are the index in the other rows. Other lanes
-// change only higher bits. A look-up ignores these for a byte below 128, and no other byte is
+// Returns the hash of each lane, whose low four bits are the index in the other rows. Other lanes
+// change only its higher bits. For a byte below 128 a look-up ignores these, and no other byte is
 // valid.
 #[inline(always)]
 fn hashes<const N: usize>(v: Simd<u8, N>) -> Simd<u8, N>

@@ -73,9 +73,9 @@ impl Encode<32, 64> for Halved {
         Lanes::shuffle(digits(upper), both_nibbles(v))
     }
 
-    // The first half is stored first. The compiler would store the second half of a vector first.
-    // Then a text that does not fit the first cache and does not begin at a multiple of 64 would
-    // take a quarter longer.
+    // Without this body, the compiler would store the second half of a vector before the first one.
+    // Then a text that exceeds the first-level cache and is not aligned to 64 bytes would take a
+    // quarter longer.
     #[inline(always)]
     fn write(v: u8x32, dst: &mut [u8], at: usize, upper: bool)
         requires { at + 64 ≤ length dst.old }
@@ -182,7 +182,7 @@ where
     let len = src.len();
     encode_at::<E, N, TWICE>(src, dst, 0, upper);
     encode_at::<E, N, TWICE>(src, dst, N, upper);
-    // If there are at most 3 * N bytes, the last block reaches the second one.
+    // With at most 3 * N bytes, the last block begins within the second one or right after it.
     if len > 3 * N {
         encode_at::<E, N, TWICE>(src, dst, len - 2 * N, upper);
     }

@@ -24,7 +24,7 @@ pub(crate) fn check_by_look_up(src: &[u8], case: CheckCase) -> bool
     valid
 }
 
-// Returns the byte of two nibbles.
+// Returns the byte that two nibbles make.
 fn packed(high: u8, low: u8) -> u8
     requires high { high < 16 }
     requires low { low < 16 }
@@ -98,8 +98,8 @@ pub fn are_digits(src: &[u8], case: CheckCase) -> bool
     word_of(src, case).is_some()
 }
 
-// Writes the lowest bytes of a number over all of `dst`, with the lowest one last. It is a loop,
-// because a copy of so few bytes would be a function call.
+// Writes the lowest bytes of a number over all of `dst`, with the lowest one last. A loop writes them,
+// because a copy of less than 8 bytes would be a function call.
 #[inline(always)]
 fn write_word(word: u64, dst: &mut [u8])
     requires { length dst.old < 8 }

@@ -40,19 +40,19 @@ pub trait Rows<const N: usize> {
         ensures { AreNibbles case v.entry result };
 }
 
-// Each of the following tables is indexed by the policy, in the order of `CheckCase`.
+// Each table with three entries is indexed by the policy, in the order of `CheckCase`.
 
 static MARK_MASKS: [u8; 3] = [0xa0, 0xa0, 0xa1];
 
-// A program searched for these rows. The proof computes the marks of all 256 bytes.
+// A search found these rows. The proof computes the marks of all 256 bytes.
 static MARK_ROWS: [[u8; 16]; 3] = [
     *b"\xa7\xa8\xa9\x00\x00\x00\x00\x00\x00\x90\xa1\xa2\xa3\xa4\xa5\xa6",
     *b"\xa7\xa8\xa9\x00\x00\x00\x00\x00\x00\x90\x91\x92\x93\x94\x95\x96",
     *b"\xa7\xa9\xa9\x00\x00\x00\x00\x00\x00\x91\xa1\xa3\xa3\xa5\xa5\xa7",
 ];
 
-// The index is how far a byte is past the digit 7, which is 0 for the digits up to 7. Modulo 16 it
-// is 10 to 15 for the letters.
+// The index is the distance of a byte past the digit 7, or 0 for a byte up to 7. For a letter it is 10
+// to 15 modulo 16.
 static NIBBLE_ROWS: [[u8; 16]; 3] = [
     *b"\x10\x11\x12\x00\x00\x00\x00\x00\x00\x00\x75\x74\x7b\x76\x79\x78",
     *b"\x30\x31\x32\x00\x00\x00\x00\x00\x00\x00\x95\x94\x9b\x96\x99\x98",
@@ -120,9 +120,9 @@ fn value_row() -> u8x64
 /// The map with rows of 16 entries, in which one instruction of most builds looks up.
 pub struct ShortRows;
 
-// It looks nothing up. It clears the bits in which digits differ from their values, and in which
-// lowercase letters differ from uppercase ones. Then a digit is its value, and a letter is its value
-// plus 55.
+// This map looks nothing up. It clears the bits in which decimal digits differ from their values, and
+// lowercase letters from uppercase ones. A decimal digit is then its value, and a letter its value plus
+// 55.
 impl<const N: usize> Nibbles<N> for ShortRows {
     #[inline(always)]
     fn nibbles(v: Simd<u8, N>, _case: CheckCase) -> Simd<u8, N>
@@ -148,7 +148,7 @@ impl<const N: usize> Rows<N> for ShortRows {
         requires { N ≤ 64 }
         ensures { AreClear (mark_mask case) result ↔ AllValid case v.entry 0 N }
     {
-        // This adds 57 modulo 256, so the digits 0 to 6 get the indices from 9 on.
+        // Subtracting 199 adds 57 modulo 256, so the digits 0 to 6 get the indices from 9 on.
         let past = wrapping_sub(v, 199);
         xor(past, differences(look_up(mark_row(case), past), v))
     }
@@ -180,8 +180,8 @@ impl Nibbles<64> for LongRows {
     }
 }
 
-// Returns the value of each valid lane, and a number of at least 16 for each invalid lane. Such a
-// number has one of the high four bits.
+// Returns the value of each valid lane, and for each invalid one a number that has one of the high four
+// bits set.
 #[inline(always)]
 fn long_nibbles<const N: usize>(v: Simd<u8, N>, case: CheckCase) -> Simd<u8, N>
     requires { N ≤ 64 }

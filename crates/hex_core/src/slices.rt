@@ -97,8 +97,8 @@ impl Backend {
     // source of any length. Returns the index of that byte, and the byte plus `INVALID`. If all
     // bytes are valid, it returns the number of bytes written, and 0.
     //
-    // It is a function of its own, and its result fits two registers. So `decode_into` has no value
-    // to keep across the call, and saves no register for it, which would slow short sources down.
+    // This is a function of its own, whose result fits two registers. So `decode_into` keeps no value
+    // across the call and saves no register, which would slow short sources down.
     #[inline(never)]
     fn decode_or_find_outlined(self, src: &[u8], dst: &mut [u8], case: CheckCase) -> (usize, u16)
         requires twice { length src.now ≡ 2 * length dst.old }

@@ -233,8 +233,8 @@ pub fn read_in<'a, A: Allocator + Drop, const N: usize>(
 fn read_line<'a, const N: usize>(line: &'a [u8], case: CheckCase) -> Result<Entry<'a, N>, LineFault>
     ensures { Answers (line_fault case N line.entry.now) (λ e. LineIs case line.entry.now e) result }
 {
-    // This test does not multiply by `N`, because the product may exceed `usize`. Once the line is
-    // known to be so long, the product fits.
+    // This test does not multiply by `N`, because the product may exceed `usize`. It fits once the line
+    // is known to be longer.
     if line.len().saturating_sub(1) / 2 <= N {
         return Err(LineFault::ShortLine);
     }
@@ -252,7 +252,7 @@ fn read_line<'a, const N: usize>(line: &'a [u8], case: CheckCase) -> Result<Entr
     }
 }
 
-// Returns the fault of the first invalid byte among the digits of a line, one of which is invalid.
+// Returns the fault of the first invalid byte among the digits of a line. There must be one.
 #[cold]
 fn invalid_digit<const N: usize>(line: &[u8], case: CheckCase) -> LineFault
     requires long { 2 * N ≤ length line.now }

@@ -27,8 +27,8 @@ pub fn encoded<'b>(bytes: &[u8], upper: bool, buffer: &'b mut [u8]) -> &'b [u8]
     ensures text { result.now ≡ text upper bytes.now }
     ensures ascii { IsAscii result.now }
 {
-    // `hex_encode` would do the same. But the toolchain keeps no proof that reads the contract of
-    // `hex_encode`, so each program above would prove this function again.
+    // `hex_encode` does the same. But the toolchain keeps no proof that reads its contract, so each
+    // program above would prove this function again.
     let len = hex_encode_into(bytes, buffer, upper).unwrap();
     &buffer[..len]
 }
@@ -67,7 +67,7 @@ pub fn put_digits<S: Sink>(
     }
 }
 
-// Does the same as `put_digits` without a group. A short source needs one put, so it has no loop and
+// Does the same as `put_digits` without a group. A short source is put at once, without a loop and from
 // a smaller buffer.
 fn put_text<S: Sink>(sink: &mut S, bytes: &[u8], upper: bool) -> Result<(), WriteFault>
     ensures { Puts (S.state sink.old) (S.state sink.new) result (text upper bytes.now) }
@@ -95,8 +95,8 @@ fn put_grouped<S: Sink>(
     put_parts(sink, bytes, upper, Some(group), &mut [0; 3 * ENCODE_CHUNK])
 }
 
-// Puts the digits of `bytes`, one part after the other. Inlined, the group is known to be there or
-// not.
+// Puts the digits of `bytes`, one part after the other. It is inlined, so that each caller has code for
+// its own case: with or without a group.
 #[inline(always)]
 fn put_parts<S: Sink>(
     sink: &mut S,
@@ -179,8 +179,8 @@ fn separated<'b>(
 {
     let start = usize::from(follows);
     let end = write_with_room(bytes, &mut buffer[start..], group, upper);
-    // If the separator were always stored, before the digits, LLVM would clear the buffer from its
-    // second byte on. This takes longer.
+    // If the separator were always stored, LLVM would clear the buffer from its second byte on, which
+    // takes longer.
     if follows {
         buffer[0] = group.sep();
     }

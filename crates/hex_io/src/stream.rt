@@ -255,7 +255,7 @@ fn encode_by<R: Read, S: Sink>(
     }
 }
 
-// Reads once. If the read is interrupted, it is tried again.
+// Reads once, and again as long as the read is interrupted.
 fn read_again<R: Read>(reader: &mut R, buf: &mut [u8]) -> io::Result<usize>
     ensures bound { ReadsAtMost result buf.new }
     ensures bytes { ReadConsumes (R.remaining reader.old) (R.remaining reader.new) result buf.new }

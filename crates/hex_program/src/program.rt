@@ -32,7 +32,7 @@ fn finish<W: Write>(out: &mut W, ran: Result<(), RunFault>) -> Result<(), Failur
     }
 }
 
-// Writes a text and flushes it. Nothing is tried again.
+// Writes a text and flushes it. A failed write is not tried again.
 fn write_text<W: Write>(out: W, text: &[u8]) -> (Result<(), Failure>, W)
     ensures { Outputs text.now (W.contents out) (W.contents result.1) result.0 }
 {
@@ -49,7 +49,7 @@ pub(crate) fn print_line<W: Write, M: Display>(out: W, line: &M) -> (Result<(), 
     ensures { IfSome (M.output line.now) (λ line. Outputs (line ++ 10 ∷ []) (W.contents out) (W.contents result.1) result.0) }
 {
     let mut text = ArrayString::<LINE>::new();
-    // The buffer has room for each line that a program prints, so this does not fail.
+    // This cannot fail, because the buffer has room for each line that a program prints.
     let Ok(()) = fmt::Write::write_fmt(&mut text, format_args!("{line}\n")) else {
         return (Err(Failure::WriteFailed), out);
     };

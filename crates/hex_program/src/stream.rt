@@ -111,7 +111,7 @@ fn serve_stream_op<R: Read, W: Write>(
     (ended, out)
 }
 
-// Does what the arguments of the program ask for, or fails if they ask for nothing.
+// Does what the arguments of the program ask for, or fails if they name no operation.
 fn answer_words<R: Read, W: Write>(
     words: &[&str],
     input: &mut R,

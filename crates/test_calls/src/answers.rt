@@ -1,10 +1,10 @@
-//! Writes through an answer that lends the front of a destination, and the default policy.
+//! Writes through the slice that a call returns, which is the front of its destination; and the default policy.
 
 use hex_codec::{hex_decode, hex_encode};
 use hex_core::{CheckCase, Error};
 use std::alloc::{AllocError, Global};
 
-// Whether a call answers these bytes. Writes a mark over the answer from a place on.
+// Returns whether a call returned the bytes `want`. Writes `mark` over them, from `place` on.
 fn marks(got: Result<&mut [u8], Error>, want: &[u8], place: usize, mark: &[u8]) -> bool {
     let Ok(front) = got else {
         return false;
@@ -18,7 +18,7 @@ fn marks(got: Result<&mut [u8], Error>, want: &[u8], place: usize, mark: &[u8]) 
     is_answered
 }
 
-// Whether marks over a decoded front, an encoded one and an empty one leave what is after them.
+// Returns whether marks in a decoded, an encoded and an empty front leave the bytes behind each front.
 fn are_marked(decoded: &mut [u8; 5], encoded: &mut [u8; 8], empty: &mut [u8; 5]) -> bool {
     let bytes = [0, 0xab, 0xcd];
     let is_decoded = marks(hex_decode(b"00aBcD", decoded), &bytes, 0, &[0xff]);
@@ -28,13 +28,13 @@ fn are_marked(decoded: &mut [u8; 5], encoded: &mut [u8; 8], empty: &mut [u8; 5])
     is_decoded && is_encoded && is_empty && are_left && *encoded == *b"00ABCD\xff\xff"
 }
 
-// The examples of the Rust crate's `decode.rs` and `encode.rs` that write through the answer.
+// The examples of the Rust crate's `decode.rs` and `encode.rs` that write through the returned slice.
 #[test]
 fn a_write_through_the_answer_stays_in_the_front(rt: HostRuntime) {
     assert!(rt; are_marked(&mut [0xa5; 5], &mut [0xff; 8], &mut [0xa5; 5]));
 }
 
-// Decodes a source that is let go before the answer is used.
+// Decodes a source that is dropped before the returned slice is used.
 fn outlives_its_source(alloc: Global) -> Result<bool, AllocError> {
     let mut dst = [0xa5; 4];
     let written = {

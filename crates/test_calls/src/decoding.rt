@@ -6,7 +6,7 @@ use test_kit::source::{alphabet, digits, first, joined, listed, repeated, with};
 
 const NO_DIGITS: [u8; 10] = [0, b'/', b':', b'@', b'G', b'`', b'g', 0x7f, 0x80, 0xff];
 
-// Each length up to 300 that is decoded: into as much room as it takes, and into more.
+// Decodes digits of each even length up to 600, into exactly the room that their bytes need and into more.
 #[test]
 fn each_length_is_decoded(rt: HostRuntime) {
     let mut slices = Slices::new();
@@ -23,7 +23,7 @@ fn each_length_is_decoded(rt: HostRuntime) {
     assert_eq!(rt; slices.ended(1_204), "");
 }
 
-// Each length up to 300 that is refused: for want of room, because it is odd, and for one of its last bytes.
+// Refused sources of each length up to 601: of odd length, with too little room, or with an invalid byte near the end.
 #[test]
 fn each_length_is_refused(rt: HostRuntime) {
     let mut slices = Slices::new();
@@ -116,7 +116,7 @@ fn independent_decode_lengths_stop_at_guard_pages(rt: HostRuntime) {
     assert_eq!(rt; slices.ended(2_080), "");
 }
 
-// Any bytes of each length, into too little and enough room.
+// Decodes bytes of any value, of each length up to 2,048, into too little and into enough room.
 fn any_bytes(slices: &mut Slices, case: CheckCase) {
     let bytes = listed::<2_048>(0);
     for k in 0..1_024 {
@@ -132,7 +132,7 @@ fn any_bytes(slices: &mut Slices, case: CheckCase) {
     }
 }
 
-// Digits, and from each place on any bytes, of which the first is none.
+// Decodes digits that are followed, from each place on, by bytes of any value. The first of these bytes is no digit.
 fn digits_before_any_bytes(slices: &mut Slices, case: CheckCase) {
     let (text, bytes, mut src) = (digits::<2_048>(0, case), listed::<2_048>(0), [0; 2_048]);
     for k in 0..2_048 {
@@ -146,7 +146,7 @@ fn digits_before_any_bytes(slices: &mut Slices, case: CheckCase) {
     }
 }
 
-// Digits of each length: all of them, and with an invalid byte behind.
+// Decodes digits of each length, and digits of each even length with an invalid byte in the last place.
 fn digits_of_each_length(slices: &mut Slices, case: CheckCase) {
     let text = repeated::<2_048>(alphabet(case));
     for k in 0..=1_024 {
@@ -185,7 +185,7 @@ fn arbitrary_bytes_and_independent_lengths(rt: HostRuntime) {
     assert_eq!(rt; slices.ended(51_253), "");
 }
 
-// A byte of these digits is damaged: with room for all, with too little room, and with the last digit left out.
+// Decodes digits with an invalid byte at `place`: into too little room, without the last digit, and into enough room.
 fn damaged(slices: &mut Slices, k: u16, place: usize) {
     let k = usize::from(k);
     let (text, len) = (with(digits::<2_048>(0, Either), place, 0xff), 2 * k + 2);
@@ -214,7 +214,7 @@ fn generated_hex_covers_success_and_controlled_failures(rt: HostRuntime) {
         for place in [0, k, 2 * k + 1] {
             damaged(&mut slices, count, place);
         }
-        // Digits of either case, of which the first letter of the other case is at the place 6 or 7. It is not damaged.
+        // Digits of either case. The first letter that the policy refuses is at place `letter`, which `middle` skips.
         for (case, letter) in [(Lower, 6), (Upper, 7)] {
             let middle = if k < letter { k } else { k + 1 };
             for place in [0, middle, 2 * k + 1] {
@@ -226,7 +226,7 @@ fn generated_hex_covers_success_and_controlled_failures(rt: HostRuntime) {
     assert_eq!(rt; slices.ended(39_942), "");
 }
 
-// Digits of a policy, a byte that is none, and digits of either case behind it, also letters that the policy refuses.
+// Digits of a policy, then a byte that is no digit, then digits of either case, also letters that the policy refuses.
 #[test]
 fn a_byte_that_is_no_digit_at_each_place_is_named(rt: HostRuntime) {
     let mut slices = Slices::new();

@@ -1,4 +1,4 @@
-//! Calls with their results: those that the request states, and the examples in the documentation of the Rust crate.
+//! Calls with their stated results: basic ones, the examples in the documentation of the Rust crate, and its tests.
 
 use crate::slices::{POLICIES, Slices, invalid, too_small};
 use hex_core::CheckCase::{Lower, None as Either, Upper};

@@ -1,4 +1,4 @@
-//! What errors print, whatever width, precision and other flags they are given.
+//! What errors print, whatever width, precision and other flags the format string has.
 
 use hex_codec::grouped::GroupFault;
 use hex_core::{CheckCase, Error};
@@ -12,7 +12,7 @@ use test_kit::seen::{Given, Seen};
 
 const MOST: usize = usize::MAX;
 
-// Tries each of these errors, and ends a test.
+// Compares what each error prints with its text, and ends the test.
 macro_rules! prints {
     ($rt:ident $tried:literal: $($fault:expr => $text:literal)*) => {
         let mut seen = Seen::new();

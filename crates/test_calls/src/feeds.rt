@@ -8,13 +8,13 @@ use test_kit::model::{decode_pairs, first_invalid};
 use test_kit::seen::{Given, Seen};
 use test_kit::source::{first, repeated, with};
 
-// The most chunks of a source, more than twice as many as the longest source has digits.
+// The most chunks of a source: above twice the longest length, because half of the shortest chunks are empty.
 const CHUNKS: usize = 24_000;
 
-// The longest chunk, by the seed modulo 6.
+// The longest chunk for each seed modulo 6.
 const WIDEST: [u64; 6] = [1, 2, 8, 70, 300, 3_000];
 
-// Moves on to the next chunk. Returns its length, which looks random and may be 0.
+// Returns the length of the next chunk, which may be 0, from a linear congruential generator.
 fn next_length(state: &mut u64, widest: u64) -> usize {
     let product = state.wrapping_mul(6_364_136_223_846_793_005);
     *state = product.wrapping_add(1_442_695_040_888_963_407);
@@ -22,8 +22,8 @@ fn next_length(state: &mut u64, widest: u64) -> usize {
     length.unwrap_or(0) as usize
 }
 
-// Feeds a source in chunks, whose lengths are those of a seed. Returns how many bytes were written, and the error if
-// there is one.
+// Feeds a source in chunks, whose lengths the seed `given.number` determines. Returns the number of bytes written, and
+// the error if there is one.
 fn feed_all(decoder: &mut Decoder, given: Given<'_>, dst: &mut [u8]) -> (usize, Result<(), Error>) {
     let mut state = given.number as u64;
     let widest = WIDEST[given.number % 6];
@@ -44,7 +44,7 @@ fn feed_all(decoder: &mut Decoder, given: Given<'_>, dst: &mut [u8]) -> (usize, 
     (written, Ok(()))
 }
 
-// Returns the error of a source, or else the bytes of its whole pairs.
+// Returns what decoding a source must give: its error, or the bytes of its pairs.
 fn model<'a>(given: Given<'_>, pairs: &'a [u8]) -> Result<&'a [u8], Error> {
     match first_invalid(given.src, given.case) {
         Some(index) => {
@@ -56,7 +56,7 @@ fn model<'a>(given: Given<'_>, pairs: &'a [u8]) -> Result<&'a [u8], Error> {
     }
 }
 
-// Tries a source in chunks, and the whole pairs before its first invalid byte at once.
+// Feeds a source in chunks, and in one chunk the pairs of digits before its first invalid byte.
 fn feeds(seen: &mut Seen, given: Given<'_>, to: &mut Destination) {
     seen.tries();
     let len = given.src.len();
@@ -89,7 +89,7 @@ fn feeds(seen: &mut Seen, given: Given<'_>, to: &mut Destination) {
     to.is_left(seen, given, "Decoder::feed", all);
 }
 
-// Returns digits of a case.
+// Returns digits that a policy reads.
 fn source(case: CheckCase) -> [u8; 10_000] {
     let mut digits = repeated(
         b"a81d0a9128005a7e89DdBa8927D0faC7B0ca7CC8553Ffe68965eFBa65601C5FD466fd5Be6aFd831278Ec97E72b789a68555a207AbfDE08c2b2fa57812B",
@@ -129,7 +129,7 @@ fn digits_fed_in_chunks(rt: HostRuntime) {
     assert_eq!(rt; seen.ended(4_000), "");
 }
 
-// Tries `len` digits with an invalid byte at `count` places. The place grows by `step` each time, and the seed by `more`.
+// Tries `len` digits with an invalid byte at `count` places. The place grows by `step` each time, the seed by `more`.
 fn each_place(
     seen: &mut Seen,
     case: CheckCase,

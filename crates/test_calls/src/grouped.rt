@@ -10,7 +10,7 @@ use test_kit::model::value;
 use test_kit::seen::{Given, Seen};
 use test_kit::source::{first, repeated};
 
-/// The policies by one word.
+/// The policy that reads both letter cases. `LOWER` and `UPPER` read one.
 pub const ANY: CheckCase = CheckCase::None;
 
 pub const LOWER: CheckCase = CheckCase::Lower;
@@ -20,7 +20,7 @@ pub const UPPER: CheckCase = CheckCase::Upper;
 // The number of bytes of a piece, and the separator.
 type Pieces = (usize, u8);
 
-// What reading gives.
+// The bytes that reading gives, or the error.
 type Reading<'a> = Result<&'a [u8], GroupFault>;
 
 const MOST: usize = usize::MAX;
@@ -33,7 +33,7 @@ pub fn text_len(count: usize, every: usize) -> usize {
     count.saturating_mul(2).saturating_add(separators)
 }
 
-// Returns how many digits are before the one at a place, or `None` for the place of a separator.
+// Returns how many digits precede the digit at a place, or `None` if a separator is there.
 fn digits_before(place: usize, every: usize) -> Option<usize> {
     let digits = every.saturating_mul(2);
     let line = digits.saturating_add(1);
@@ -42,7 +42,7 @@ fn digits_before(place: usize, every: usize) -> Option<usize> {
     (!is_separator).then_some(place.saturating_sub(separators))
 }
 
-// Writes the text of `count` bytes, whose digits repeat a unit, and returns it.
+// Writes the grouped text of `count` bytes, whose digits repeat a unit, into a buffer, and returns it.
 fn grouped<'a>(unit: &[u8], count: usize, pieces: Pieces, text: &'a mut [u8]) -> &'a mut [u8] {
     let (every, sep) = pieces;
     let text = text.get_mut(..text_len(count, every)).unwrap_or_default();
@@ -54,7 +54,7 @@ fn grouped<'a>(unit: &[u8], count: usize, pieces: Pieces, text: &'a mut [u8]) ->
     text
 }
 
-// Decodes a text into a buffer for the result, by definition. Returns what the calls must give.
+// Decodes a grouped text into a buffer, digit by digit. Returns what the calls must give.
 fn model<'a>(pieces: Pieces, given: Given<'_>, bytes: &'a mut [u8]) -> Reading<'a> {
     let ((every, sep), src) = (pieces, given.src);
     let mut counts = 0..=src.len();
@@ -80,7 +80,7 @@ fn model<'a>(pieces: Pieces, given: Given<'_>, bytes: &'a mut [u8]) -> Reading<'
     Ok(front)
 }
 
-// Tries both calls.
+// Tries both calls that read a grouped text.
 fn calls(
     seen: &mut Seen,
     pieces: Pieces,
@@ -101,18 +101,18 @@ fn calls(
     to.is_left(seen, given, "grouped::read_into", want);
 }
 
-// Tries an input, whose result is given.
+// Tries an input whose result is stated.
 fn gives(seen: &mut Seen, pieces: Pieces, given: Given<'_>, want: Reading<'_>) {
     seen.tries();
     calls(seen, pieces, given, want, &mut Destination::new());
 }
 
-// Tries an input, whose result is by definition.
+// Tries an input whose result `model` computes.
 fn reads(seen: &mut Seen, pieces: Pieces, given: Given<'_>) {
     gives(seen, pieces, given, model(pieces, given, &mut [0; 2_050]));
 }
 
-// Tries a text with colons by the policy that accepts each digit.
+// Tries a text with colons, whose digits may have either letter case.
 fn any(seen: &mut Seen, every: usize, room: usize, src: &[u8], want: Reading<'_>) {
     gives(seen, (every, b':'), Given::new(ANY, room, src), want);
 }
@@ -168,7 +168,7 @@ fn too_small(seen: &mut Seen, every: usize, src: &[u8], required: usize) {
     }
 }
 
-// Tries a text of three bytes whose first wrong byte has this index.
+// Tries the text of three bytes in which the first wrong byte is at `index`.
 fn invalid(seen: &mut Seen, every: usize, case: CheckCase, src: &[u8], index: usize, byte: u8) {
     for room in 3..6 {
         let want = Err(GroupFault::InvalidByte { index, byte });
@@ -216,12 +216,12 @@ fn each_length_has_one_number_of_bytes_or_none(rt: HostRuntime) {
     assert_eq!(rt; seen.ended(3_020), "");
 }
 
-// Replaces a byte, and returns what it was.
+// Replaces the byte at a place, and returns the old one.
 fn put(text: &mut [u8], place: usize, byte: u8) -> u8 {
     text.get_mut(place).map_or(0, |at| mem::replace(at, byte))
 }
 
-// Reads each beginning of a text that has a place and is a grouped text.
+// Reads the prefixes of a text that have the length of a grouped text and contain the changed byte, at `whole.number`.
 fn beginnings(seen: &mut Seen, pieces: Pieces, whole: Given<'_>, to: &mut Destination) {
     seen.tries();
     for count in 1..whole.src.len() {
@@ -267,7 +267,7 @@ fn each_byte_at_each_place_of_a_grouped_text(rt: HostRuntime) {
     assert_eq!(rt; seen.ended(180_480), "");
 }
 
-// Tries texts of each length up to 70 bytes and long ones. All their pieces have the same digits.
+// Tries texts of up to 70 bytes, and of 2,049 bytes. All pieces of a text have the same digits.
 fn lengths(seen: &mut Seen, pieces: Pieces) {
     let lower: [u8; 1_026] = repeated(b"004992db246db6ff102f8e17c3a45d");
     let upper: [u8; 1_026] = repeated(b"004992DB246DB6FF102F8E17C3A45D");
@@ -299,8 +299,8 @@ fn grouped_texts_are_read_back(rt: HostRuntime) {
     assert_eq!(rt; seen.ended(3_600), "");
 }
 
-// Tries wrong bytes at a place, alone and with a `g` at places behind it: bytes that are neither digits nor separators, a
-// letter of the other case, and a digit and a separator in each other's places.
+// Tries wrong bytes at a place, alone and with a `g` behind them: two bytes that are no digits, `G` or a letter of the
+// other case, and a separator in place of a digit or a digit in place of a separator.
 fn wrong_at(
     seen: &mut Seen,
     pieces: Pieces,
@@ -330,7 +330,7 @@ fn wrong_at(
     }
 }
 
-// Tries wrong bytes at each place of a text of 19 bytes, and at some places of one of 2,049 bytes.
+// Tries wrong bytes at each place of a text of 19 bytes, and at some places of a text of 2,049 bytes.
 fn each_wrong(seen: &mut Seen, every: usize, sep: u8) {
     let mut text = [0; 6_200];
     for case in POLICIES {

@@ -1,4 +1,4 @@
-//! The functions on lanes: what each gives for blocks of 16, 32 and 64 bytes, byte by byte.
+//! The functions on lanes, compared byte by byte for blocks of 8 to 64 bytes.
 
 ghost use Rattle.std.specs.Prelude.{IsTrue};
 ghost use Rattle.hex_core.specs.Lanes.{AreSmall};
@@ -13,17 +13,17 @@ use test_kit::model::value;
 use test_kit::seen::{Given, Seen};
 use test_kit::source::{alphabet, first, repeated, with};
 
-// Lends the bytes of a block of as many lanes, or zeros.
+// Lends the first `$lanes` bytes as a block, or zeros if there are fewer.
 macro_rules! block {
     ($bytes:expr, $lanes:literal) => {
         $bytes.first_chunk().unwrap_or(&[0; $lanes])
     };
 }
 
-// What a function gives for a byte that it refuses, where any such number is right.
+// Stands for the nibble of a refused byte, which may be any number.
 const REFUSED: u8 = 255;
 
-// A function of each width.
+// A task, for which there is a function for each width of a block.
 #[derive(Clone, Copy)]
 enum Call {
     // `y` for each byte that is admitted, and `n` for each other one.
@@ -32,11 +32,11 @@ enum Call {
     Saturate,
     // The checks of hashed bytes.
     Hash,
-    // Their nibbles, or `REFUSED` if the check is 128 or more.
+    // The nibbles of hashed bytes, or `REFUSED` if the check is 128 or more.
     Nibbles,
-    // The bytes of nibbles.
+    // The bytes that pairs of nibbles make.
     Pack,
-    // The digits.
+    // The digits of bytes.
     Write,
 }
 
@@ -52,7 +52,7 @@ impl Call {
         }
     }
 
-    // Returns whether it gives this for the bytes of a block.
+    // Returns whether the function gives `want` for a block.
     fn gives(self, case: CheckCase, bytes: &[u8], want: &[u8]) -> bool {
         match self {
             Call::Admit => are_admitted(bytes, case, want),
@@ -155,7 +155,7 @@ fn tries(seen: &mut Seen, call: Call, case: CheckCase, bytes: &[u8], want: &[u8]
     seen.is(given, call.name(), call.gives(case, bytes, want), true);
 }
 
-// Tries a call with a byte in each lane, between digits, each of which gives `usual`.
+// Tries a byte in each lane among digits. `digit` and `byte` are pairs of a byte and what the call gives for it.
 fn in_each_lane(
     seen: &mut Seen,
     call: Call,
@@ -223,7 +223,7 @@ fn bytes_of_a_block_are_admitted(rt: HostRuntime) {
     assert_eq!(rt; seen.ended(793), "");
 }
 
-// The nibbles of a byte that is no digit are those that saturating sums and differences leave.
+// A byte that is no digit has the nibble that saturating sums and differences leave.
 #[test]
 fn saturating_nibbles(rt: HostRuntime) {
     let mut seen = Seen::new();
@@ -295,7 +295,7 @@ fn checks_of_hashed_bytes(rt: HostRuntime) {
     assert_eq!(rt; seen.ended(1_158), "");
 }
 
-// Each byte that is no digit is refused, also in a lane between digits, and 0xff in each lane.
+// Each byte that is no digit is refused between digits, and the byte 0xff in each lane.
 #[test]
 fn nibbles_of_hashed_bytes(rt: HostRuntime) {
     let mut seen = Seen::new();

@@ -1,5 +1,5 @@
-//! Families of inputs. Each input is tried by all calls that must give the same result. A family is a loop, or a list of calls
-//! with their results.
+//! Tests of calls, by families of inputs. A family is a loop, or a list of calls with their results. Each input is
+//! tried by all calls that must give the same result.
 #![tactic(auto)]
 
 #[cfg(test)]

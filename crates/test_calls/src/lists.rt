@@ -18,7 +18,7 @@ const DIGITS: &[u8] = b"004992db246db6ff102f8e17c3a45d";
 
 const UPPER_DIGITS: &[u8] = b"004992DB246DB6FF102F8E17C3A45D";
 
-// Two lines, and the same as they are written in lowercase.
+// Two lines of a list. `LOWER_LINES` are the same lines as they are written in lowercase.
 const LINES: &[u8] = b"ab01  a.txt\nCD02 *b\n";
 
 const LOWER_LINES: &[u8] = b"ab01  a.txt\ncd02 *b\n";
@@ -37,7 +37,7 @@ fn growths(count: usize) -> u64 {
     growths
 }
 
-// Returns whether a list has these entries.
+// Returns whether a list consists of the lines of `entries`.
 fn are_lines<const N: usize>(entries: &[Entry<'_, N>], list: &[u8]) -> bool
     requires { N < 10000 }
 {
@@ -58,7 +58,7 @@ fn are_lines<const N: usize>(entries: &[Entry<'_, N>], list: &[u8]) -> bool
     rest.is_empty()
 }
 
-// Returns a list in place of its entries.
+// Returns the list in place of its entries, or another text if `got` has other entries.
 fn listed<'a, A: Allocator + Drop, const N: usize>(
     got: Result<Vec<Entry<'a, N>, A>, ListFault>,
     list: &'a [u8],
@@ -74,8 +74,8 @@ fn listed<'a, A: Allocator + Drop, const N: usize>(
     }
 }
 
-// Tries both calls that read a list, with `given.number` allocations granted. The first `count` lines have no fault, and
-// `fault` is that of the next one.
+// Tries both calls that read a list, with `given.number` allocations granted. The first `count` lines have no fault,
+// and the next line has `fault`.
 fn reads<const N: usize>(
     seen: &mut Seen,
     alloc: Global,
@@ -106,8 +106,7 @@ fn reads<const N: usize>(
     }
 }
 
-// Tries to write a list as this text into a slice, whose length is the number, and into each kind of sink that takes as
-// many bytes.
+// Writes a list, whose text is `text`, into a slice of `given.number` bytes and into sinks that take as many.
 fn writes<const N: usize>(seen: &mut Seen, alloc: Global, given: Given<'_>, text: &[u8])
     requires { N < 10000 }
 {
@@ -143,7 +142,7 @@ fn upper(number: usize, src: &[u8]) -> Given<'_> {
     Given::new(UPPER, number, src)
 }
 
-// Tries a list of digests of two bytes.
+// Tries to read a list whose digests have two bytes.
 fn two(seen: &mut Seen, alloc: Global, list: &[u8], count: usize, fault: Option<LineFault>) {
     reads::<2>(seen, alloc, any(9, list), count, fault);
 }
@@ -227,7 +226,7 @@ fn memory_grows_behind_the_line_that_needs_it(rt: HostRuntime) {
     assert_eq!(rt; seen.ended(28), "");
 }
 
-// A list that sha256sum printed of a file with `hello` and a newline as text, and of an empty one as binary.
+// What `sha256sum` printed for a text file with `hello` and a newline, and for an empty binary file.
 const PRINTED: &[u8] = b"\
 5891b5b522d5df086d0ff0b110fbd9d21bb4fc7163af34d08286a2e846f6be03  a.txt\n\
 e3b0c44298fc1c149afbf4c8996fb92427ae41e4649b934ca495991b7852b855 *b\n";
@@ -240,7 +239,7 @@ fn list_that_sha256sum_printed(rt: HostRuntime) {
     assert_eq!(rt; seen.ended(2), "");
 }
 
-// Tries to write a list in each room up to a byte more than its text has.
+// Writes a list, in lowercase as `small` and in uppercase as `large`, into each room up to one byte more than it needs.
 fn in_each_room<const N: usize>(
     seen: &mut Seen,
     alloc: Global,
@@ -271,7 +270,7 @@ fn lists_are_written_into_each_room(rt: HostRuntime) {
     assert_eq!(rt; seen.ended(91), "");
 }
 
-// Tries lists in a letter case: names of each length up to 99, and three lines.
+// Tries lists in a letter case: with one name of each length up to 99, and with three lines.
 fn names<const N: usize>(seen: &mut Seen, alloc: Global, case: CheckCase)
     requires { N < 10000 }
 {
@@ -300,7 +299,7 @@ fn names<const N: usize>(seen: &mut Seen, alloc: Global, case: CheckCase)
     }
 }
 
-// Tries lists of some lines that are the same, the last of them also without its newline.
+// Tries lists that repeat one line, the longest also without its last newline.
 fn lines<const N: usize>(seen: &mut Seen, alloc: Global)
     requires { N < 10000 }
 {

@@ -1,4 +1,4 @@
-//! What the tests must notice: a wrong result, a wrong byte, and an input that was left out.
+//! What the comparisons of tests must notice: a wrong result, a wrong byte, and an input that was left out.
 
 use crate::slices::{Slices, invalid};
 use hex_core::CheckCase::None as Either;

@@ -1,4 +1,4 @@
-//! The calls that return a vector or a string, or append to one. Each asks for its memory once.
+//! The calls that return a vector or a string, or append to a string. Each allocates at most once.
 
 ghost use Rattle.std.specs.Prelude.{◌<◌};
 
@@ -22,13 +22,13 @@ type Text<'r> = String<&'r Refusing<Global>>;
 
 type Want<'a> = Result<&'a [u8], Error>;
 
-// Seven bytes before an append.
+// What a string has before an append: seven bytes, not all of them ASCII.
 const BEFORE: &str = "前缀:";
 
-// Bytes that are repeated.
+// The unit that long sources repeat.
 const UNIT: &[u8] = b"\x00\x49\x92\xdb\x24\x6d\xb6\xff\x10\x2f\x8e\x17\xc3\xa4\x5d";
 
-// Makes a string.
+// Returns the bytes of the string that encoding returns.
 fn string<'r>(
     alloc: &'r Refusing<Global>,
     given: Given<'_>,
@@ -41,7 +41,7 @@ fn string<'r>(
     got.map(String::into_bytes)
 }
 
-// Appends by the call that lends what it appends.
+// Appends by the call that returns the appended text.
 fn lends<'t>(given: Given<'_>, text: &'t mut Text<'_>) -> Result<&'t [u8], Error> {
     let got = if given.is_upper() {
         hex_append_upper(given.src, text)
@@ -68,7 +68,7 @@ enum Call {
     String,
 }
 
-// The number that calls are given is that of the growths that are granted.
+// In these tests `given.number` is the number of allocations that are granted.
 #[derive(Drop)]
 struct Tries {
     seen: Seen,
@@ -81,8 +81,8 @@ impl Tries {
         Tries { seen, alloc }
     }
 
-    // Tries a call that makes this if there is memory. It asks for memory before it looks at a byte, for no more than it
-    // needs, and for none if there are no bytes or the length is odd.
+    // Tries a call that gives `want` if there is memory. It must allocate before it looks at a byte, no more than it
+    // needs, and nothing for an empty source or an odd length.
     fn makes(&mut self, call: Call, given: Given<'_>, want: Want<'_>) {
         let (src, case) = (given.src, given.case);
         let refusing = Refusing::new(self.alloc, given.number as u64);
@@ -135,8 +135,8 @@ impl Tries {
         self.makes(Call::String, given, want);
     }
 
-    // Tries an append to a string with a capacity and a text, by the call that lends what it appends or by the one that
-    // returns nothing. The capacity of a string that grows is then its length.
+    // Tries an append to a string with a capacity and a text, by the call that returns the appended text or by the one
+    // that returns nothing. If the string grows, its capacity is then its length.
     fn append_by(&mut self, is_lent: bool, given: Given<'_>, to: (usize, &str), want: Want<'_>) {
         let (capacity, before) = to;
         let call = if is_lent { "append" } else { "append_into" };
@@ -183,7 +183,7 @@ impl Tries {
         self.append_gives(given, to, want);
     }
 
-    // Tries three appends to one string, which ask for no growth.
+    // Tries three appends to one string, which has room for all of them.
     fn appends<'x>(&mut self, first: &'x [u8], second: &'x [u8], lower: &'x [u8], upper: &'x [u8]) {
         self.seen.tries();
         let refusing = Refusing::new(self.alloc, 1);
@@ -204,7 +204,7 @@ impl Tries {
         self.seen.is(given, "append", refusing.asked(), 1);
     }
 
-    // Tries each call that takes memory, or prints, with `count` bytes and their digits.
+    // Tries each call that allocates, and printing, with `count` bytes and their digits.
     fn long(&mut self, case: CheckCase, count: usize) {
         self.seen.tries();
         let letter = if case == Upper { b'A' } else { b'a' };
@@ -271,7 +271,7 @@ fn vectors_ask_for_memory_once(rt: HostRuntime) {
     assert_eq!(rt; tries.seen.ended(204), "");
 }
 
-// Digits of each length, and many with an invalid one at the end.
+// Digits of each even length up to 4,096, and 138,000 bytes of which only the last is no digit.
 #[test]
 fn vectors_of_each_length(rt: HostRuntime) {
     let mut tries = Tries::new(rt.alloc());
@@ -312,7 +312,7 @@ fn vectors_keep_slice_decoder_error_precedence_and_grammar(rt: HostRuntime) {
     assert_eq!(rt; tries.seen.ended(8), "");
 }
 
-// Digits of whole blocks and of a tail, with an invalid byte, and with another at the start.
+// Digits of whole blocks and a tail, with an invalid byte at some place, alone and with another one at the start.
 fn blocks_and_tail<const N: usize>(tries: &mut Tries, case: CheckCase, other: u8)
     requires { N < 10000 }
 {
@@ -351,7 +351,7 @@ fn owned_outputs_report_errors_across_complete_blocks_and_tails(rt: HostRuntime)
     assert_eq!(rt; tries.seen.ended(228), "");
 }
 
-// The digits of a hash after some bytes, whole and its first four bytes, and with bytes at a place that are no digits.
+// Decodes the digits of a hash within a buffer: all, those of four bytes, and with each of `others` for a digit.
 fn hashes(tries: &mut Tries, start: usize, case: CheckCase, others: &[u8]) {
     let (from, digits) = (start / 64 % 32, digits::<64>(start, case));
     let mut buffer = [0xa5; 160];
@@ -380,7 +380,7 @@ fn owned_decoders_match_independently_generated_hashes(rt: HostRuntime) {
     assert_eq!(rt; tries.seen.ended(196_608), "");
 }
 
-// Each length of a source, as an array of 32 bytes, as a vector and into a slice.
+// Decodes each prefix of a source into an array of 32 bytes, a vector and a slice.
 fn each_length(tries: &mut Tries, slices: &mut Slices, case: CheckCase, src: &[u8; 129]) {
     for len in 0..130 {
         array::<32>(&mut tries.seen, case, first(src, len));

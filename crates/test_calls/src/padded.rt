@@ -78,7 +78,7 @@ impl Style {
     }
 }
 
-// A text, or its beginning if it is longer.
+// A text, cut at the length of `bytes` if it is longer.
 #[derive(Drop)]
 struct Text {
     bytes: [u8; 8_200],
@@ -98,7 +98,7 @@ impl Text {
     fn put_copies(&mut self, fill: char, count: usize) {
         let mut bytes = [0; 4];
         let copy = fill.encode_utf8(&mut bytes).as_bytes();
-        // No sink has room for more.
+        // A width may be huge, but no sink here has room for more copies.
         for _ in 0..count.min(3_000) {
             self.put(copy);
         }
@@ -121,8 +121,8 @@ impl Text {
     }
 }
 
-// Returns the text of bytes: sign, prefix and digits. Up to the width, zeros come before the digits, or copies of the
-// fill around all.
+// Returns the text of bytes: sign, prefix and digits. It is filled up to the width, by zeros before the digits or by
+// copies of the fill around the whole.
 fn padded(format: Style, bytes: &[u8]) -> Text {
     let flags = format.flags();
     let new = || Text {
@@ -166,7 +166,7 @@ impl Tries {
         }
     }
 
-    // Puts a text into a slice, or into a sink of a mode. It takes as much as there is room for.
+    // Puts the text of bytes into a slice or a sink of a mode, which must take as much of `text` as it has room for.
     fn puts(&mut self, sink: Option<Mode>, room: usize, format: Style, bytes: &[u8], text: &[u8]) {
         let (put, flags): (Put<'_, 0>, _) = (Put::Padded(bytes), format.flags());
         let given = Given::new(CheckCase::None, room, bytes).by(format.letters);
@@ -186,7 +186,7 @@ impl Tries {
         self.puts(sink, room, format, bytes, text.as_slice());
     }
 
-    // Tries each sink that fails, with room for 0 bytes, for `step` bytes and so on.
+    // Tries each failing sink with `rooms` numbers of bytes for which it has room: the multiples of `step` from 0 on.
     fn fails(&mut self, rooms: usize, step: usize, format: Style, bytes: &[u8]) {
         for mode in FAILING {
             for i in 0..rooms {
@@ -195,7 +195,7 @@ impl Tries {
         }
     }
 
-    // Tries a slice that a text fits exactly, and a sink that takes a byte at a time.
+    // Tries a slice exactly as long as the text, and a sink that takes one byte at a time.
     fn pads(&mut self, format: Style, bytes: &[u8], text: &[u8]) {
         self.seen.tries();
         self.puts(None, text.len(), format, bytes, text);
@@ -225,7 +225,7 @@ fn examples_of_format_rs(rt: HostRuntime) {
     assert_eq!(rt; tries.seen.ended(5), "");
 }
 
-// Tries four sources by formats with these letters.
+// Prints four sources by the format `like` with each word of `letters`.
 fn styles(tries: &mut Tries, letters: &'static str, like: Style) {
     for letters in letters.split(' ') {
         let format = Style { letters, ..like };
@@ -401,8 +401,8 @@ fn writer_errors_stop_immediately_and_preserve_accepted_text(rt: HostRuntime) {
     assert_eq!(rt; tries.seen.ended(61_656), "");
 }
 
-// A text without bytes meets no failure, and any other does if nothing is taken. Failures among grouped digits come in
-// few bytes, between parts of many, and in a long piece. No put has more than 1,024 digits.
+// An empty text meets no failure, and any other fails if nothing is taken. Sinks then fail among few grouped digits,
+// between parts of long texts, and within a long piece. No put has more than 1,024 digits.
 #[test]
 fn failures_among_digits(rt: HostRuntime) {
     let mut tries = Tries::new(rt.alloc());
@@ -418,7 +418,7 @@ fn failures_among_digits(rt: HostRuntime) {
     assert_eq!(rt; tries.seen.ended(279), "");
 }
 
-// A put into a writer is one write of all bytes, and a put of none a write of none. Neither flushes the writer.
+// A put into a `WriterSink` is one write of the whole piece, also of an empty one, and no flush.
 fn is_put(alloc: Global, count: usize) -> bool {
     let Ok(piece) = Vec::from_elem(alloc, b'a', count) else {
         return false;

@@ -1,5 +1,5 @@
-//! Families of sources that are checked, searched, and decoded as a whole, also into a buffer that is given up if they are
-//! refused.
+//! Families of sources that are checked, searched, and decoded whole, also into a buffer that is discarded if decoding
+//! fails.
 
 use crate::slices::{POLICIES, Slices};
 use hex_codec::hex_check_with_case;
@@ -13,7 +13,7 @@ const FORCED: [usize; 24] = [
     194,
 ];
 
-// Each byte at each place of a source.
+// Tries each byte value at each place of a source.
 fn each_byte(slices: &mut Slices, case: CheckCase, src: &[u8]) {
     for place in 0..src.len() {
         let mut changed = [0; 258];
@@ -31,7 +31,7 @@ fn each_byte(slices: &mut Slices, case: CheckCase, src: &[u8]) {
     }
 }
 
-// Neighbouring pairs differ, so that bits are noticed that leak from one lane into the next.
+// Neighbouring words of four digits differ, so that a bit that leaks from one word into the next is noticed.
 #[test]
 fn forced_backends_check_every_byte_in_every_lane_before_writing(rt: HostRuntime) {
     let mut slices = Slices::new();
@@ -44,7 +44,7 @@ fn forced_backends_check_every_byte_in_every_lane_before_writing(rt: HostRuntime
     assert_eq!(rt; slices.ended(1_188_864), "");
 }
 
-// The maps that hash a lane also see three bits of its neighbour. So each digit is at each offset in a word of four bytes.
+// The maps that hash a lane also see three bits of its neighbour, so each digit is at each offset in a word of four.
 #[test]
 fn each_byte_among_all_digits(rt: HostRuntime) {
     let mut slices = Slices::new();
@@ -74,7 +74,7 @@ fn a_byte_that_is_no_digit_before_any_byte(rt: HostRuntime) {
     assert_eq!(rt; slices.ended(182_784), "");
 }
 
-// The byte has up to 299 digits on either side. So it is tried in blocks that overlap, and in the tail behind a loop.
+// The byte has up to 299 digits on either side, so that it also falls into overlapping blocks and the tail of a loop.
 #[test]
 fn a_byte_that_is_no_digit_at_each_place_of_each_length(rt: HostRuntime) {
     let mut slices = Slices::new();
@@ -90,7 +90,7 @@ fn a_byte_that_is_no_digit_at_each_place_of_each_length(rt: HostRuntime) {
     assert_eq!(rt; slices.ended(270_000), "");
 }
 
-// If a decoding fails, `decode_owned` leaves the bytes of whole blocks in its buffer.
+// If decoding fails, `decode_owned` leaves the bytes of whole blocks in its buffer.
 #[test]
 fn a_refusal_leaves_whole_blocks(rt: HostRuntime) {
     let mut slices = Slices::new();
@@ -131,7 +131,7 @@ fn digits_alone_are_decoded_alike(rt: HostRuntime) {
     assert_eq!(rt; slices.ended(303), "");
 }
 
-// A source that repeats a pair, which is decoded as the pair is, into 34 bytes.
+// Tries a source that repeats one pair of bytes, with room for 34 bytes.
 fn pair_is_decoded(slices: &mut Slices, case: CheckCase, src: &[u8]) {
     slices.seen.tries();
     let mut bytes = [0; 33];
@@ -163,7 +163,7 @@ fn every_character_pair_in_scalar_and_vector_sized_inputs(rt: HostRuntime) {
     assert_eq!(rt; slices.ended(589_824), "");
 }
 
-// Each length up to 300: all digits, and a byte that is none at each of the last 19 places.
+// Digits of each length up to 300, and an invalid byte with up to 18 digits behind it.
 #[test]
 fn each_length_is_checked(rt: HostRuntime) {
     let mut slices = Slices::new();

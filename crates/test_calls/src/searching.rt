@@ -7,7 +7,7 @@ use test_kit::model::first_invalid;
 use test_kit::seen::{Given, Seen};
 use test_kit::source::{first, joined, with};
 
-// The digits of a policy, with the value of the first of each range.
+// The ranges of the digits of a policy: the first digit, the last one, and the value of the first.
 fn ranges(case: CheckCase) -> [(u8, u8, u8); 3] {
     let (lower, upper) = ((b'a', b'f', 10), (b'A', b'F', 10));
     match case {
@@ -127,8 +127,8 @@ fn the_search_takes_few_steps(rt: HostRuntime) {
     assert_eq!(rt; seen.ended(27), "");
 }
 
-// Each byte of a source of at most 64 bytes is looked at up to the invalid one. In a longer one blocks of 64 bytes are tested,
-// and the bytes of the first block with an invalid one are looked at, or those behind the last block.
+// In a source of at most 64 bytes the search looks at each byte up to the invalid one. In a longer one it tests blocks
+// of 64 bytes, and looks at the bytes of the first block that fails, or behind all blocks.
 #[test]
 fn the_search_tests_blocks(rt: HostRuntime) {
     let mut seen = Seen::new();

@@ -1,4 +1,4 @@
-//! A sink that takes what is put in six ways, five of which fail, and what is put into sinks.
+//! A sink of six modes, which say what it takes of a piece, and what is put into sinks.
 
 ghost use Rattle.std.specs.Prelude.{◌≡◌, ◌≤◌, ◌<◌, None};
 
@@ -9,18 +9,18 @@ use test_kit::destination::Destination;
 use test_kit::fakes::Pattern;
 use test_kit::seen::{Given, Seen};
 
-/// What a sink takes of a piece. Its limit is the number of bytes that it takes in all.
+/// What a sink takes of a piece. The limit of a sink is the number of bytes that it takes in all.
 #[derive(Clone, Copy, PartialEq, Eq)]
 pub enum Mode {
-    /// One byte a put.
+    /// One byte of each piece.
     OneByte,
     /// What fits. A put at the limit is refused, even one of an empty piece.
     ThenRefuses,
-    /// What fits. A piece that does not fit whole is refused.
+    /// What fits. The put of a piece that does not fit whole takes a part of it and fails.
     RefusesTheRest,
-    /// Each piece that fits whole. Any other is refused, and none of it taken.
+    /// Each piece that fits whole. Any other piece is refused, and no part of it is taken.
     TakesWholes,
-    /// What fits, and none at the limit.
+    /// What fits, which is nothing at the limit.
     ThenTakesNone,
     /// What fits. A piece of more than 1,024 bytes is refused.
     RefusesLong,
@@ -37,7 +37,7 @@ pub const MODES: [Mode; 6] = [
 ];
 
 impl Mode {
-    /// Returns its name.
+    /// Returns the name of a mode.
     pub fn name(self) -> &'static str {
         match self {
             Mode::OneByte => "one-byte",
@@ -49,7 +49,7 @@ impl Mode {
         }
     }
 
-    // Returns the fault that a put into a sink that fails in this way is reported as.
+    // Returns the fault that a failed put into a sink of this mode is reported as.
     fn fault(self) -> WriteFault {
         match self {
             Mode::OneByte | Mode::ThenTakesNone => WriteFault::TookNothing,
@@ -58,7 +58,7 @@ impl Mode {
     }
 }
 
-/// A sink that compares what it takes with what it must take, and that must not be put to after a failure.
+/// A sink that compares what it takes with what it must take. After a failure nothing more may be put into it.
 #[derive(Drop)]
 pub struct Taking<'a> {
     mode: Mode,
@@ -68,13 +68,13 @@ pub struct Taking<'a> {
     failed: u64,
     has_failed: bool,
     is_right: bool,
-    /// How often something was put.
+    /// The number of puts.
     pub puts: usize,
     ghost in_limit: { taken ≤ limit },
 }
 
 impl<'a> Taking<'a> {
-    /// Returns a sink that takes `limit` bytes in this way, and has counted `failed` failures already.
+    /// Returns a sink of a mode, which takes `limit` bytes and has already counted `failed` failures.
     pub fn new(mode: Mode, wanted: Pattern<'a>, limit: usize, failed: u64) -> Taking<'a>
         ensures { (⟦<Taking<'a> as Sink>⟧.state result).failures ≡ failed }
     {
@@ -90,15 +90,15 @@ impl<'a> Taking<'a> {
         }
     }
 
-    /// Returns whether it has taken exactly what it must, or a beginning if it refused a whole piece, and counts so
-    /// many failures.
+    /// Returns whether the sink has taken exactly what it must, or a prefix if it refused a whole piece, and has
+    /// counted `failures` failures.
     pub fn is_filled(&self, failures: u64) -> bool {
         let is_cut = self.mode == Mode::TakesWholes && self.has_failed;
         let is_taken = is_cut || self.taken == self.wanted.count;
         self.is_right && is_taken && self.failed == failures
     }
 
-    // Returns whether a piece is what it must take next.
+    // Returns whether a piece is what the sink must take next.
     fn wants(&self, piece: &[u8]) -> bool {
         for i in 0..piece.len() {
             if self.wanted.at(self.taken.wrapping_add(i)) != Some(piece[i]) {
@@ -148,14 +148,12 @@ impl Sink for Taking<'_> {
 /// The text that a sink takes, and whether it then fails.
 #[derive(Clone, Copy)]
 pub struct Taken<'a> {
-    /// The text.
     pub text: &'a [u8],
-    /// Whether the sink then fails.
     pub is_stopped: bool,
 }
 
 impl Taken<'_> {
-    // Returns whether writing ends so, with this fault if the sink fails.
+    // Returns whether writing ended with `fault` if the sink fails, and without a fault otherwise.
     fn is_ended(self, answer: Result<(), ListWriteFault>, fault: WriteFault) -> bool {
         match answer {
             Ok(()) => !self.is_stopped,
@@ -164,7 +162,7 @@ impl Taken<'_> {
     }
 }
 
-/// What is put into a sink, by flags: the text of some bytes, or of a list, for which only the letter case counts.
+/// What is put into a sink: the text of bytes by flags, or that of a list, which uses only the flags' letter case.
 #[derive(Clone, Copy)]
 pub enum Put<'a, const N: usize> {
     /// Some bytes.
@@ -174,7 +172,7 @@ pub enum Put<'a, const N: usize> {
 }
 
 impl<'a, const N: usize> Put<'a, N> {
-    // Puts it.
+    // Puts the text into a sink.
     fn write_to<S: Sink>(self, sink: &mut S, flags: &HexFlags) -> Result<(), ListWriteFault>
         requires { N < 10000 }
     {
@@ -187,7 +185,7 @@ impl<'a, const N: usize> Put<'a, N> {
         }
     }
 
-    /// Tries a slice, whose length is the number that is given.
+    /// Tries a slice of `given.number` bytes.
     pub fn fills(
         self,
         seen: &mut Seen,
@@ -208,7 +206,7 @@ impl<'a, const N: usize> Put<'a, N> {
         to.is_left(seen, given, "SliceSink: its slice", wanted);
     }
 
-    /// Tries a sink that takes as many bytes as the number that is given, in this way.
+    /// Tries a sink of a mode that takes `given.number` bytes.
     pub fn is_taken(
         self,
         seen: &mut Seen,

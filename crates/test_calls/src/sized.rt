@@ -17,7 +17,7 @@ macro_rules! for_sizes {
     };
 }
 
-/// Policies, each with a letter case of the digits that it reads.
+/// Policies, each with a letter case that it reads.
 pub const SPELLINGS: [(CheckCase, CheckCase); 4] = [
     (Either, Lower),
     (Either, Upper),
@@ -65,7 +65,7 @@ pub fn array_gives<const N: usize>(
     }
 }
 
-/// Does the same as `array_gives`, and computes the result. An odd length comes first, then a wrong one, then a bad byte.
+/// Does the same as `array_gives`, and computes the result: first an odd length, then a wrong one, last a bad byte.
 pub fn array<const N: usize>(seen: &mut Seen, case: CheckCase, src: &[u8])
     requires { N < 10000 }
 {
@@ -82,7 +82,7 @@ pub fn array<const N: usize>(seen: &mut Seen, case: CheckCase, src: &[u8])
     array_gives::<N>(seen, case, src, model::decoded(src, case, N, &mut bytes));
 }
 
-// Tries a text of at most `N` digits of bytes.
+// Tries the text of bytes with a capacity of `N` digits.
 pub fn fixed<const N: usize>(seen: &mut Seen, case: CheckCase, src: &[u8])
     requires { N < 10000 }
 {
@@ -128,7 +128,7 @@ fn arrays_reject_lengths_before_characters_and_preserve_byte_diagnostics(rt: Hos
     assert_eq!(rt; seen.ended(10), "");
 }
 
-// The digits of `N` bytes by each policy, and with two digits more and less.
+// Tries the digits of `N` bytes by each policy, and two digits more and fewer.
 fn about_length<const N: usize>(seen: &mut Seen)
     requires { N < 10000 }
 {
@@ -168,7 +168,7 @@ fn arrays_of_digits_of_both_cases(rt: HostRuntime) {
     assert_eq!(rt; seen.ended(17), "");
 }
 
-// No byte, as many as fit, up to eight more, and more than the capacity.
+// Tries each number of bytes up to eight more than fit, and one more than the capacity.
 fn about_capacity<const N: usize>(seen: &mut Seen)
     requires { N < 10000 }
 {

@@ -1,5 +1,5 @@
-//! The calls on slices, by each plan and by those that name none. Methods named `encode`, `decode` and so on are given what
-//! the calls must give. All others compute it.
+//! The calls on slices, with each plan and without one. Methods named `encode`, `decode` or `check` are given the
+//! result that each call must give. `encodes`, `decodes` and `checks` compute it.
 
 use hex_codec::{
     hex_check, hex_check_with_case, hex_decode, hex_decode_into, hex_decode_with_case, hex_encode,
@@ -33,17 +33,17 @@ pub fn plans() -> [Backend; 9] {
     ]
 }
 
-/// The refusal of a byte.
+/// The error of an invalid byte.
 pub fn invalid<'a>(index: usize, byte: u8) -> Result<&'a [u8], Error> {
     Err(Error::InvalidChar { index, byte })
 }
 
-/// The refusal of a destination.
+/// The error of a destination that is too small.
 pub fn too_small<'a>(required: usize) -> Result<&'a [u8], Error> {
     Err(Error::OutputTooSmall { required })
 }
 
-/// What tries the calls: where they write to, and what they gave.
+/// The destination of the calls of a test, and what they gave.
 #[derive(Drop)]
 pub struct Slices {
     pub seen: Seen,
@@ -59,8 +59,8 @@ impl Slices {
         }
     }
 
-    /// Returns the text about the first call that gave something else. It is empty if each call gave what it must and `tried`
-    /// inputs were tried.
+    /// Returns the text about the first call that gave a wrong result. It is empty if there was none and `tried` inputs
+    /// were tried.
     pub fn ended(&mut self, tried: usize) -> &str {
         self.seen.ended(tried)
     }
@@ -124,8 +124,8 @@ impl Slices {
         self.decode(case, room, src, decoded(src, case, room, &mut bytes));
     }
 
-    /// Does the same as `decodes`, with a source that begins `from` bytes behind the beginning of a buffer, and a
-    /// destination that begins `shift` bytes behind that of another one, both modulo 32.
+    /// Does the same as `decodes`, with a source `from` bytes into a buffer and a destination moved by `shift` bytes,
+    /// both modulo 32.
     pub fn decodes_at(
         &mut self,
         from: usize,
@@ -174,8 +174,8 @@ impl Slices {
             .is_left(&mut self.seen, given, "hex_encode_into", want);
     }
 
-    /// Tries each encoding call with `room` bytes of room. Each must give `want`. The policy is the one that reads only the
-    /// letter case that is written.
+    /// Tries each encoding call with `room` bytes of room. Each must give `want`. The policy `Upper` stands for
+    /// uppercase digits, and any other for lowercase ones.
     pub fn encode(&mut self, case: CheckCase, room: usize, src: &[u8], want: Result<&[u8], Error>) {
         self.seen.tries();
         self.are_encoded(Given::new(case, room, src), want);

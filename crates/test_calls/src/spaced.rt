@@ -8,7 +8,7 @@ const LONGEST: usize = 70;
 const DIGITS: [u8; LONGEST] =
     *b"0123456789aBcDeFfEdCbA98765432100123456789aBcDeFfEdCbA9876543210012345";
 
-// Whether this many digits are decoded alike with a byte of white space at this place.
+// Returns whether `len` digits are decoded alike with and without a byte of white space at a place.
 fn is_skipped(len: usize, place: usize, space: u8) -> bool {
     let digits = DIGITS.get(..len).unwrap_or_default();
     let mut text = [space; LONGEST + 1];

@@ -14,12 +14,12 @@ use test_kit::model::value;
 use test_kit::seen::{Given, Seen};
 use test_kit::source::{first, repeated, with};
 
-// The most bytes of a read of a stream that is decoded, and of one that is encoded.
+// The most bytes that one read asks for when a stream is decoded, and when it is encoded.
 const DECODED: usize = 16_384;
 
 const ENCODED: usize = 8_192;
 
-// The bytes that most streams have again and again, and their digits in lines of 30 bytes and with white space.
+// The bytes that most streams repeat, and their digits in lines of 30 bytes and with white space.
 const BYTES: &[u8] = b"\x00\xab\xff\x10\x32";
 
 const LOWER_LINE: &[u8] = b"00abff103200abff103200abff103200abff103200abff103200abff1032\n";
@@ -42,13 +42,13 @@ struct Stream<'a> {
     call: &'static str,
     group: Option<Group>,
     case: CheckCase,
-    // The bytes that the reader repeats, how many it gives, at most in a read, and how often each read is interrupted.
+    // The bytes that the reader repeats, how many it gives in all and per read, and how often each read is interrupted.
     unit: &'a [u8],
     count: usize,
     every: usize,
     halts: usize,
     fails: bool,
-    // What the sink must take again and again, how many bytes it takes, and how many failures it has counted before.
+    // The bytes that the sink must take repeatedly, how many it takes in all, and how many failures it counted before.
     text: &'a [u8],
     room: usize,
     failures: u64,
@@ -95,7 +95,7 @@ impl<'a> Stream<'a> {
         matches!(self.call, "decode" | "spaced")
     }
 
-    // Returns how it ends if all `put` bytes were put, unless its sink is full before.
+    // Returns how the stream ends: as `end` says after `put` bytes, or with a full sink if there is no room for them.
     fn ended(self, put: usize, end: Result<usize, StreamFault>) -> Ended {
         let full = StreamFault::Write(WriteFault::Sink(SinkFault));
         if put > self.room {
@@ -105,7 +105,7 @@ impl<'a> Stream<'a> {
         }
     }
 
-    // Returns how it must end, if it is decoded. The whole pairs before a read are put when it comes.
+    // Returns how decoding must end. Before each read, the whole pairs of all earlier reads are put.
     fn decoded(self) -> Ended {
         let (mut digits, mut put): (usize, usize) = (0, 0);
         for index in 0..self.count {
@@ -128,7 +128,7 @@ impl<'a> Stream<'a> {
         self.ended(digits / 2, end)
     }
 
-    // Returns how it must end, if it is encoded.
+    // Returns how encoding must end.
     fn encoded(self) -> Ended {
         let every = self.group.map_or(usize::MAX, |group| group.every());
         let fault = Err(StreamFault::Read);
@@ -146,8 +146,8 @@ impl<'a> Stream<'a> {
         }
     }
 
-    // Returns the most bytes of a read that is needed. A read that gives less than it could may end within a group. One
-    // more read then goes to the end of that group.
+    // Returns the number of bytes by which reads are counted. In a grouped stream it is half a read, because a read
+    // that ends within a group is followed by one more, to the end of that group.
     fn chunk(self) -> usize {
         match self.group {
             Some(_) => self.every.min(ENCODED).div_ceil(2),
@@ -156,7 +156,7 @@ impl<'a> Stream<'a> {
         }
     }
 
-    // Tries the call.
+    // Tries the stream, and compares how it ends with how it must.
     fn run(self, seen: &mut Seen) {
         seen.tries();
         let decodes = self.decodes();
@@ -176,7 +176,7 @@ impl<'a> Stream<'a> {
         let got = self.calls(&mut reader, &mut sink);
         let is_full = matches!(want, Err(StreamFault::Write(_)));
         let failures = self.failures.saturating_add(u64::from(is_full));
-        // One put for each read that gave something, and one that is refused.
+        // One put for each read that gave bytes, and one that is refused.
         let puts = reader.reads.saturating_sub(reader.ended);
         let is_put = sink.puts <= puts.saturating_add(usize::from(is_full));
         let is_read = reader.ended < 2 && reader.is_read_by(self.chunk());
@@ -207,21 +207,21 @@ fn decode(case: CheckCase, count: usize) -> Stream<'static> {
     }
 }
 
-// Returns one with white space.
+// Returns a stream of digits and white space.
 fn spaced(case: CheckCase, count: usize) -> Stream<'static> {
     let mut stream = decode(case, count).of(SPACED, BYTES);
     stream.call = "spaced";
     stream.by(4_096, 0, 10_000)
 }
 
-// Returns one that is encoded.
+// Returns a stream that is encoded.
 fn encode(case: CheckCase, count: usize) -> Stream<'static> {
     let mut stream = decode(case, count).of(BYTES, digits(case));
     stream.call = "encode";
     stream.by(4_096, 0, 50_000)
 }
 
-// Returns one that is encoded in groups.
+// Returns a stream that is encoded in groups.
 fn grouped(case: CheckCase, count: usize, every: usize, sep: u8) -> Stream<'static> {
     let mut stream = encode(case, count);
     stream.call = "grouped";
@@ -229,7 +229,7 @@ fn grouped(case: CheckCase, count: usize, every: usize, sep: u8) -> Stream<'stat
     stream
 }
 
-// Returns one that is encoded in lines of 30 bytes.
+// Returns a stream that is encoded in lines of 30 bytes.
 fn lines(case: CheckCase, count: usize) -> Stream<'static> {
     let is_upper = case == UPPER;
     let line = if is_upper { UPPER_LINE } else { LOWER_LINE };

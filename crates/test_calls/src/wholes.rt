@@ -9,22 +9,22 @@ use test_kit::source::{first, placed};
 // The longest source.
 const LONGEST: usize = 8_300;
 
-// How many digits each plan decodes at a time into a buffer that is given up; 0 if it tests all digits first.
+// How many digits `decode_owned` tests and decodes at a time by each plan; 0 if it tests all digits first.
 const OWNED_BLOCKS: [usize; 9] = [0, 0, 64, 128, 64, 128, 128, 128, 128];
 
-// Returns how many bytes a plan has stored in such a buffer if the first invalid byte is at this place.
+// Returns how many bytes a plan with blocks of `block` digits has stored if the first invalid byte is at a place.
 fn stored_before(place: usize, block: usize) -> usize {
     place.checked_div(block).unwrap_or(0).saturating_mul(block) / 2
 }
 
 impl Slices {
-    // Tries a call of a plan that decodes a whole source of even length, into a buffer that is given up on a refusal if
-    // `is_owned` is true. It must leave these bytes.
+    // Tries `decode`, or `decode_owned` if `is_owned` is true, with a source of even length. The call must leave the
+    // bytes `left` in its destination.
     fn is_decoded(&mut self, plan: Backend, given: Given<'_>, is_owned: bool, left: &[u8]) {
         let Given { case, src, .. } = given;
         let dst = self.to.lend(src.len() / 2);
         if src.len() % 2 == 1 || dst.len() != src.len() / 2 {
-            // Only a source of odd length cannot be tried.
+            // A source of odd length is skipped. With any other source the buffer was too short, which is an error.
             self.seen.is(given, "lend", src.len() % 2, 1);
             return;
         }
@@ -39,7 +39,7 @@ impl Slices {
             .is_left(&mut self.seen, given, call, Ok::<_, u8>(left));
     }
 
-    /// Tries each call of a plan that checks, searches or decodes a whole source. A source of odd length is not decoded.
+    /// Tries each call of a plan that checks, searches or, if its length is even, decodes a whole source.
     pub fn are_read(&mut self, case: CheckCase, src: &[u8]) {
         let mut bytes = [0; LONGEST / 2];
         let place = first_invalid(src, case);
@@ -80,8 +80,8 @@ impl Slices {
         self.are_encoded(given, Ok(text));
     }
 
-    /// Writes some bytes as this text and reads them again, by all calls into as much room as is needed. The bytes are `from`
-    /// bytes behind the beginning of a buffer, and the digits `shift` bytes behind that of another one.
+    /// Encodes bytes, which must give `text`, and decodes them again, by all calls and into exactly the room needed.
+    /// The bytes are `from` bytes into a buffer, and the digits `shift` bytes into another one.
     pub fn goes_round(
         &mut self,
         case: CheckCase,

@@ -5,7 +5,7 @@ use faster_hex::adapters::WireFormat;
 use faster_hex::{AdapterError, CheckCase, Error};
 use test_kit::model::encoded;
 
-/// What is read: bytes or none, or the error. Adapters that know no none read some bytes.
+/// What is read: bytes, none, or the error. Only optional adapters read none.
 pub type Got<T> = Result<Option<T>, AdapterError>;
 
 /// A `Got` whose bytes are borrowed.
@@ -46,17 +46,17 @@ pub fn quoted(prefix: &[u8], digits: &[u8]) -> Text {
     text
 }
 
-/// The adapters with a format, and the modules that do the same.
+/// The adapters of a format, and the modules that do the same as they.
 #[derive(Clone, Copy)]
 pub struct Adapter {
     pub format: WireFormat,
     /// Whether a value may be none.
     pub is_optional: bool,
-    /// The field of an object that is read, or nothing for the whole value.
+    /// The field of an object that is read, or an empty text for the whole value.
     pub field: &'static str,
 }
 
-/// The adapters that do the same as the root.
+/// The adapters of the format that the root of the crate reads and writes.
 pub const ROOT: Adapter = Adapter {
     format: WireFormat::WITHPFX_IGNORECASE,
     is_optional: false,
@@ -64,7 +64,7 @@ pub const ROOT: Adapter = Adapter {
 };
 
 impl Adapter {
-    /// Returns the adapters that know no none.
+    /// Returns the adapters of a format for values that are never none.
     pub fn of(format: WireFormat) -> Adapter {
         Adapter { format, ..ROOT }
     }
@@ -75,7 +75,7 @@ impl Adapter {
         self
     }
 
-    /// Returns the same for a field of an object.
+    /// Returns this adapter for a field of an object.
     pub fn field(self, field: &'static str) -> Adapter {
         Adapter { field, ..self }
     }

@@ -71,7 +71,7 @@ fn other_fields_and_texts(rt: HostRuntime) {
     assert_eq!(rt; tries.seen.ended(9), "");
 }
 
-// Prints the error of an answer, which no flag changes.
+// Compares what the error of an answer prints, whatever flags the format string has.
 fn prints(tries: &mut Tries, answer: Answer<'_>, text: &str) {
     let (alloc, text) = (tries.alloc, text.as_bytes());
     let is_printed = answer.is_err_and(|error| test_kit::prints(alloc, &error, text));

@@ -1,4 +1,4 @@
-//! How often memory is asked for, and long texts.
+//! How often adapters allocate, and long texts.
 
 use crate::adapter::{Adapter, NO_MEMORY, ROOT, invalid, modules, ok, over_bound, quoted};
 use crate::modules::read_by;
@@ -11,7 +11,7 @@ use test_kit::model::encoded;
 use test_kit::refusing::Refusing;
 use test_kit::source::listed;
 
-// Returns the same case if memory is granted as often as it is asked for. Otherwise there is no memory.
+// Returns the case, whose result is `NO_MEMORY` if fewer allocations are granted than asked for.
 fn granted<'a>(mut case: Case<'a>, grants: u64, asked: u64) -> Case<'a> {
     if grants < asked {
         case.want = Err(NO_MEMORY);
@@ -19,7 +19,7 @@ fn granted<'a>(mut case: Case<'a>, grants: u64, asked: u64) -> Case<'a> {
     case
 }
 
-// Reads what asks for memory once if `asked` is 1, and never if it is 0. It is granted none, and then once.
+// Reads a case that must ask for `asked` allocations, 0 or 1. First none is granted, and then one.
 fn asks(tries: &mut Tries, asked: u64, case: Case<'_>) {
     for grants in 0..2 {
         tries.seen.tries();
@@ -51,7 +51,7 @@ fn asks_for_text(tries: &mut Tries, asked: u64, case: Case<'_>) {
     }
 }
 
-// A reading asks after its length is judged and before any digit is, and not if it reads no bytes.
+// Reading allocates after the length is checked and before any digit is, and not if there are no bytes to read.
 #[test]
 fn a_reading_asks_for_memory_at_most_once(rt: HostRuntime) {
     let mut tries = Tries::new(rt.alloc());
@@ -81,7 +81,7 @@ fn a_reading_asks_for_memory_at_most_once(rt: HostRuntime) {
     assert_eq!(rt; tries.seen.ended(52), "");
 }
 
-// Makes the text of some bytes, which is none without a prefix if there are none.
+// Makes the text of bytes, without an allocation if the text is empty.
 fn makes_text(tries: &mut Tries, by: Adapter, src: &[u8]) {
     let asked = u64::from(by.format.prefixed || !src.is_empty());
     let mut digits = [0; 138_000];

@@ -45,7 +45,7 @@ pub fn read_by<A: Allocator + Drop>(tries: &mut Tries, case: Case<'_>, alloc: A,
     }
 }
 
-/// Reads a value within `MAX` bytes, and also by the calls without a bound if this is the greatest bound.
+/// Reads a value within `MAX` bytes, and also by the calls without a bound if `MAX` is the greatest number.
 pub fn read<const MAX: usize>(tries: &mut Tries, case: Case<'_>, value: &Value) {
     let alloc = tries.alloc;
     if MAX == usize::MAX {
@@ -75,7 +75,7 @@ pub fn read_array<const N: usize>(tries: &mut Tries, case: Case<'_>, value: &Val
     }
 }
 
-/// Writes some bytes, or none if the adapters know it. There are modules for the formats that read what they write.
+/// Writes bytes, or none if the adapters are optional. Only formats that read what they write have modules.
 pub fn write(tries: &mut Tries, case: Case<'_>, src: Option<&[u8]>) {
     let (alloc, format) = (tries.alloc, case.by.format);
     let bytes = src.unwrap_or_default();

@@ -20,14 +20,14 @@ pub fn multiples<const N: usize>(factor: usize) -> [u8; N] {
     bytes
 }
 
-// Reads a JSON text, also within two bytes and as an array of two bytes.
+// Reads a JSON text, also with a bound of two bytes and as an array of two bytes.
 fn reads_alike(tries: &mut Tries, by: Adapter, json: &[u8], want: Answer<'_>) {
     tries.reads(by, json, want);
     tries.reads_within::<2>(by, json, want);
     tries.reads_array::<2>(by, json, want);
 }
 
-// Returns what is read for some digits of these bytes.
+// Returns what must be read for `digits`: `bytes`, or the error of the first invalid digit.
 fn answer<'a>(by: Adapter, digits: &[u8], bytes: &'a [u8]) -> Answer<'a> {
     match first_invalid(digits, by.format.case) {
         Some(at) => invalid(at, digits.get(at).copied().unwrap_or_default()),
@@ -35,7 +35,7 @@ fn answer<'a>(by: Adapter, digits: &[u8], bytes: &'a [u8]) -> Answer<'a> {
     }
 }
 
-// Letters of each case are tried without a digit of the other case, and together.
+// Tries letters of each case alone, and of both cases together.
 fn letters(tries: &mut Tries, by: Adapter) {
     for (digits, bytes) in [
         (b"1201", [0x12, 1]),
@@ -62,7 +62,7 @@ fn letters(tries: &mut Tries, by: Adapter) {
     tries.reads(by, &quoted(prefix, escapes), ok(&[0xab]));
 }
 
-// Another number of bytes is refused before a byte that is no digit.
+// A wrong number of bytes is refused before a byte that is no digit.
 fn lengths(tries: &mut Tries, by: Adapter) {
     let empty = by.string(b"");
     tries.reads(by, &empty, ok(b""));
@@ -112,7 +112,7 @@ fn each_format_reads_texts_of_few_bytes(rt: HostRuntime) {
     assert_eq!(rt; tries.seen.ended(2_040), "");
 }
 
-// Each byte that JSON shows as it is stands behind a digit, and others stand at each place of 64.
+// Tries each byte that JSON shows as it is behind a digit, and other bytes at each of 64 places.
 fn names_first(tries: &mut Tries, by: Adapter) {
     for byte in b' '..=b'~' {
         let is_shown = byte != b'"' && byte != b'\\';

@@ -1,4 +1,4 @@
-//! Tries inputs by all calls that do the same, and compares what these give.
+//! Tries inputs by all calls that must give the same result, and compares what they give.
 
 ghost use Rattle.std.specs.Prelude.{◌<◌};
 
@@ -38,7 +38,7 @@ pub struct Tries {
     pub alloc: Global,
 }
 
-// Returns the value of a JSON text, or that of a field.
+// Returns the value of a JSON text, or of its field if `field` is not empty.
 fn parsed(alloc: Global, json: &[u8], field: &str) -> Option<Value> {
     let mut whole = Value::from_str(alloc, str::from_utf8(json).ok()?).ok()?;
     if field.is_empty() {

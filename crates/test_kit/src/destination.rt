@@ -1,11 +1,11 @@
-//! Where a call writes to, with bytes around it that it must not write.
+//! The destination of a call, between bytes that the call must not write.
 
 use crate::seen::{Given, Seen};
 
-// What a destination has before a call. It is no digit.
+// Each byte of a destination before a call. It is no digit.
 const FILL: u8 = 0xa5;
 
-// How many bytes are on each side of it.
+// How many bytes guard each side of a destination.
 const GUARD: usize = 64;
 
 const WHOLE: usize = 12_500;
@@ -14,10 +14,10 @@ const WHOLE: usize = 12_500;
 #[derive(Drop)]
 pub struct Destination {
     whole: [u8; WHOLE],
-    // What it is filled with.
+    // The bytes of `whole` after it is filled.
     filled: [u8; WHOLE],
     room: usize,
-    /// How many more bytes are before it.
+    /// How many bytes precede the destination, besides the guard.
     pub shift: usize,
 }
 

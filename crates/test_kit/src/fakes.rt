@@ -5,9 +5,8 @@ use std::io::{self, ErrorKind, Read, Write};
 /// The message of an error that does not come from the system.
 pub const WORDS: &str = "no more is taken";
 
-/// The answer of a call of a writer. It is the most bytes that the call takes. If it is negative, the call ends
-/// with the system's error of this code, without the sign. -1 is an error with the message [`WORDS`], whose kind
-/// is a time-out.
+/// How a writer answers a call: the most bytes that it takes or, if the number is negative, the system's error whose
+/// code is the number without its sign. -1 stands for an error of the kind time-out with the message [`WORDS`].
 pub type Told = i32;
 
 // The system's code of an interrupted call.
@@ -21,7 +20,7 @@ fn error(code: i32) -> io::Error {
     }
 }
 
-/// The bytes that a reader gives, or that a writer must take. They are a unit that is repeated, and then an end.
+/// The bytes that a reader gives, or that a writer must take: a unit that is repeated, and then an end.
 #[derive(Clone, Copy)]
 pub struct Pattern<'a> {
     /// The number of all bytes.
@@ -33,7 +32,7 @@ pub struct Pattern<'a> {
 }
 
 impl<'a> Pattern<'a> {
-    /// Returns these bytes, without a unit before them.
+    /// Returns a pattern of these bytes alone.
     pub fn once(end: &'a [u8]) -> Pattern<'a> {
         Pattern {
             count: end.len(),
@@ -53,7 +52,7 @@ impl<'a> Pattern<'a> {
     }
 }
 
-/// A reader that gives some bytes. After them it may fail once. Whoever then reads again meets the end.
+/// A reader that gives the bytes of a pattern. After them one read may fail. Each later read meets the end.
 #[derive(Drop)]
 pub struct Giver<'a> {
     /// The most bytes that a read gives.
@@ -64,7 +63,7 @@ pub struct Giver<'a> {
     pub failure: Option<ErrorKind>,
     /// How many reads were made. Interrupted ones do not count.
     pub reads: usize,
-    /// How many of them were made after the last byte.
+    /// How many reads were made after the last byte.
     pub ended: usize,
     bytes: Pattern<'a>,
     place: usize,
@@ -86,8 +85,8 @@ impl<'a> Giver<'a> {
         }
     }
 
-    /// Returns whether no more reads were made than are needed: reads of `chunk` bytes, a shorter one, and one at the
-    /// end.
+    /// Returns whether no more reads were made than are needed: one for each `chunk` bytes, one for the rest, and one
+    /// at the end.
     pub fn is_read_by(&self, chunk: usize) -> bool {
         let chunks = self.place.checked_div(chunk.min(self.every));
         self.reads <= chunks.unwrap_or(0).saturating_add(2)
@@ -127,19 +126,19 @@ impl Read for Giver<'_> {
     }
 }
 
-/// A writer that compares what it takes with what it must take. A test says how it answers the first writes. Each later
-/// write takes one byte, except for one that fails.
+/// A writer that compares what it takes with what it must take. A test states the answers of the first writes. Each
+/// later write takes one byte, except for one that may fail.
 #[derive(Drop)]
 pub struct Taker<'a> {
     /// The answers of the next writes.
     pub script: &'a [Told],
-    /// How many writes after them take a byte before one fails.
+    /// How many writes after those of the script take a byte before one fails.
     pub room: usize,
     /// The answer of each flush.
     pub flush: Result<(), i32>,
-    /// How often it was flushed.
+    /// The number of flushes.
     pub flushes: usize,
-    /// How many bytes all writes were given.
+    /// How many bytes all writes were given together.
     pub given: usize,
     wanted: Pattern<'a>,
     taken: usize,
@@ -161,7 +160,7 @@ impl<'a> Taker<'a> {
         }
     }
 
-    /// Returns whether it has taken exactly the bytes that it must take.
+    /// Returns whether the writer has taken exactly the bytes that it must take.
     pub fn is_filled(&self) -> bool {
         !self.is_other && self.taken == self.wanted.count
     }

@@ -12,7 +12,7 @@ pub mod source;
 use std::alloc::Global;
 use std::fmt::Display;
 
-/// Returns whether a value prints this text, and prints the same with flags.
+/// Returns whether a value prints `want`, without and with flags in the format string.
 pub fn prints<T: Display>(alloc: Global, value: &T, want: &[u8]) -> bool {
     match format!(in alloc; "{value}{value:*>+#90.3}") {
         Ok(twice) => twice.as_str().as_bytes().strip_prefix(want) == Some(want),

@@ -1,4 +1,4 @@
-//! What calls must give, by the definition of a digit and one byte after the other.
+//! What calls must give, computed byte by byte from the definition of a digit.
 
 use hex_core::{CheckCase, Error};
 

@@ -1,6 +1,6 @@
 //! An allocator for tests. It grants as many allocations as a test allows, and refuses later ones.
 //!
-//! A test lends it to what is tested, as `&alloc`. One allocator then serves all collections of the
+//! A test passes `&alloc` to the code under test. One allocator then serves all collections of the
 //! test, and the test can ask it afterwards how many allocations were made.
 
 use std::alloc::{AllocError, Allocator};
@@ -9,9 +9,9 @@ use std::cell::Cell;
 /// Passes the first `left` allocations on to `inner`, and refuses all later ones. An allocator of
 /// [`once`](Refusing::once) refuses only the next one.
 ///
-/// Each block that a collection takes counts as one allocation. This is its first block, each larger
-/// block that it grows into, and each smaller block that it shrinks into. To give a block back does
-/// not count, and is never refused.
+/// Each block that a collection takes counts as one allocation: its first block, each larger one
+/// that it grows into, and each smaller one that it shrinks into. Giving a block back does not
+/// count, and is never refused.
 ///
 /// ```rust
 /// let alloc = Refusing::new(rt.alloc(), 1);
@@ -36,13 +36,13 @@ pub struct Refusing<B: Allocator> {
     counts: Counts,
 }
 
-// They are not fields of `Refusing`, so that one borrow reaches all of them.
+// A struct of their own, so that one borrow of `Refusing` reaches all counts.
 #[derive(Drop)]
 struct Counts {
     left: Cell<u64>,
     asked: Cell<u64>,
     held: Cell<u64>,
-    // How many allocations it grants after one that it refuses.
+    // How many allocations are granted after a refused one.
     behind: u64,
 }
 
@@ -85,7 +85,7 @@ impl<B: Allocator> Refusing<B> {
 
 // Counts an allocation, and returns whether it is granted.
 fn grants(counts: &Counts) -> bool {
-    // No clause knows what a cell holds, so a plain `+` could not be shown to fit.
+    // No contract says what a cell holds, so a plain `+` could not be proved not to overflow.
     counts.asked.set(counts.asked.get().saturating_add(1));
     let left = counts.left.get();
     let is_granted = left > 0;
@@ -103,8 +103,8 @@ fn releases(counts: &Counts) {
     counts.held.set(counts.held.get().saturating_sub(1));
 }
 
-// `grow` and `shrink` are those of the trait, which call `allocate`. Those of `inner` would grow a
-// block that is not counted.
+// `grow` and `shrink` are the default methods of the trait, which call `allocate`. Those of `inner`
+// would grow a block without a count.
 unsafe impl<B: Allocator> Allocator for Refusing<B> {
     ghost dealloc_token = { λ heap ty ptr. B.dealloc_token heap.inner ty ptr };
 

@@ -1,4 +1,4 @@
-//! What the calls of a test gave, and the first of them that gave something else than it must.
+//! The results of the calls of a test, compared with what they must give. The first wrong one is kept as a text.
 
 use arrayvec::ArrayString;
 use hex_core::CheckCase;
@@ -8,8 +8,8 @@ use std::fmt::{self, Display, Write as _};
 // The most bytes of a source or a result that are shown.
 const SHOWN: usize = 40;
 
-/// What a call is given: the name of its plan, which is empty if it takes none, the policy, a number, which is the room of
-/// a destination for most calls, and the source.
+/// The arguments of a call: the name of its plan, empty if the call takes none; the policy; a number, for most calls
+/// the room of the destination; and the source.
 #[derive(Clone, Copy)]
 pub struct Given<'a> {
     pub plan: &'static str,
@@ -19,7 +19,7 @@ pub struct Given<'a> {
 }
 
 impl<'a> Given<'a> {
-    /// Returns the same for the calls that take no plan.
+    /// Returns the arguments of a call that takes no plan.
     pub fn new(case: CheckCase, number: usize, src: &'a [u8]) -> Given<'a> {
         Given {
             plan: "",
@@ -29,18 +29,18 @@ impl<'a> Given<'a> {
         }
     }
 
-    /// Returns the same for the calls of a plan.
+    /// Returns these arguments for a call of a plan.
     pub fn by(self, plan: &'static str) -> Given<'a> {
         Given { plan, ..self }
     }
 
-    /// Returns whether the letter case is the upper one.
+    /// Returns whether the policy is that of uppercase digits.
     pub fn is_upper(self) -> bool {
         self.case == CheckCase::Upper
     }
 }
 
-// As a text about a call shows it: its plan, its policy, its number, and its source.
+// The arguments as a text about a call shows them: plan, policy, number and source.
 impl Display for Given<'_> {
     fn fmt<W: fmt::Write>(&self, f: &mut fmt::Formatter<W>) -> fmt::Result {
         let policy = match self.case {
@@ -53,7 +53,7 @@ impl Display for Given<'_> {
     }
 }
 
-/// Bytes that are shown: the hex digits of the first ones, and how many bytes there are.
+/// Shows bytes: the digits of the first 40, and how many bytes there are.
 #[derive(Clone, Copy)]
 pub struct Digits<'a>(pub &'a [u8]);
 
@@ -66,7 +66,7 @@ impl Display for Digits<'_> {
     }
 }
 
-/// The number of inputs that a test tried, and a text about the first call that gave something else.
+/// The number of inputs that a test tried, and a text about the first call that gave a wrong result.
 #[derive(Drop)]
 pub struct Seen {
     tried: usize,
@@ -87,8 +87,8 @@ impl Seen {
         self.tried = self.tried.saturating_add(1);
     }
 
-    /// Returns the text about the first call that gave something else. It is empty if each call gave what it must and `tried`
-    /// inputs were tried.
+    /// Returns the text about the first call that gave a wrong result. It is empty if there was none and `tried` inputs
+    /// were tried.
     pub fn ended(&mut self, tried: usize) -> &str {
         if self.text.is_empty() && self.tried != tried {
             let _ = write!(
@@ -161,7 +161,7 @@ impl Seen {
         got == want || self.differs(given, call, got.unwrap_or(none), want.unwrap_or(none))
     }
 
-    // Writes the text about a call and its two results, unless there is a text. Returns false.
+    // Writes the text about a call and its two results, unless there is one about an earlier call. Returns false.
     fn differs<G: Display + Drop, T: Display + Drop, U: Display + Drop>(
         &mut self,
         given: G,
@@ -175,7 +175,7 @@ impl Seen {
         false
     }
 
-    // Begins the text about a call, unless there is one.
+    // Begins the text about a call and returns true, unless there is one about an earlier call.
     fn begin<G: Display + Drop>(&mut self, given: G, call: &'static str) -> bool {
         let is_first = self.text.is_empty();
         if is_first {

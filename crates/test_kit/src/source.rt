@@ -3,7 +3,7 @@
 use crate::model::digit;
 use hex_core::CheckCase;
 
-// Returns the byte at a place of the listed bytes.
+// Returns the byte at a place of the sequence of which `listed` returns a part.
 fn byte_at(place: usize) -> u8 {
     (place.wrapping_mul(73).wrapping_add(place / 7) % 256) as u8
 }
@@ -17,7 +17,7 @@ pub fn listed<const N: usize>(start: usize) -> [u8; N] {
     bytes
 }
 
-/// Returns the first `N` digits of such bytes: in lowercase or uppercase, or in either case if the policy reads both.
+/// Returns the first `N` digits of the bytes of `listed`. If the policy reads both cases, each third is uppercase.
 pub fn digits<const N: usize>(start: usize, case: CheckCase) -> [u8; N] {
     let mut text = [0; N];
     for i in 0..N {
@@ -52,7 +52,7 @@ pub fn repeated<const N: usize>(unit: &[u8]) -> [u8; N] {
     bytes
 }
 
-/// Returns the same bytes with another one at a place.
+/// Returns the bytes with `byte` at a place.
 pub fn with<const N: usize>(bytes: [u8; N], place: usize, byte: u8) -> [u8; N] {
     let mut changed = bytes;
     if let Some(at) = changed.get_mut(place) {
@@ -61,12 +61,12 @@ pub fn with<const N: usize>(bytes: [u8; N], place: usize, byte: u8) -> [u8; N] {
     changed
 }
 
-/// Returns the first bytes, or all if there are fewer.
+/// Returns the first `count` bytes, or all if there are fewer.
 pub fn first(bytes: &[u8], count: usize) -> &[u8] {
     bytes.get(..count).unwrap_or(bytes)
 }
 
-/// Puts bytes into a buffer, `from` bytes behind its beginning, and returns them there.
+/// Copies bytes into a buffer, `from` bytes behind its start, and returns the copy.
 pub fn placed<'a>(bytes: &[u8], from: usize, buffer: &'a mut [u8]) -> &'a [u8] {
     let end = from.saturating_add(bytes.len());
     let there = buffer.get_mut(from..end).unwrap_or_default();
@@ -76,7 +76,7 @@ pub fn placed<'a>(bytes: &[u8], from: usize, buffer: &'a mut [u8]) -> &'a [u8] {
     there
 }
 
-/// Puts parts into a buffer, one behind the other, and returns all of them there.
+/// Copies parts into a buffer, one behind the other, and returns the joined copy.
 pub fn joined<'a>(parts: &[&[u8]], buffer: &'a mut [u8]) -> &'a [u8] {
     let mut end = 0;
     for i in 0..parts.len() {

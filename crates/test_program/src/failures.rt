@@ -1,4 +1,4 @@
-//! Runs of which an allocation, a read or a write fails.
+//! Runs in which an allocation, a read or a write fails.
 
 use crate::run::Room::*;
 use crate::run::{EVEN, End, Run, Runs, fhex, many, ok, once, says};
@@ -7,9 +7,9 @@ use std::fmt::Write as _;
 use test_kit::source::repeated;
 
 impl Runs {
-    // A run of which allocations are refused. The first one is the room for any input. If it is refused, the first
-    // bytes make the buffer grow, once: by the rule of std to 8 bytes, or to more where more come at once. Decoding
-    // then allocates once for its bytes.
+    // Tries a run with refused allocations. The first allocation is the buffer for the input. If it is refused, the
+    // first bytes make the buffer grow, once: by the rule of std to 8 bytes, or to more if more bytes come at once.
+    // Decoding then allocates once for its result.
     fn allocates(&mut self, run: Run<'_>, is_decoded: bool, want: End<'_>) {
         let none = says(3, "out of memory");
         let second = if is_decoded { none } else { want };
@@ -43,7 +43,7 @@ fn each_allocation_may_be_refused(rt: HostRuntime) {
     assert_eq!(rt; runs.seen.ended(37), "");
 }
 
-// Interrupted, of a broken device, would block, out of memory, a lost connection and a time-out.
+// The codes are EINTR, EIO, EAGAIN, ENOMEM, ECONNRESET and ETIMEDOUT.
 #[test]
 fn a_read_that_fails_ends_the_run(rt: HostRuntime) {
     let mut runs = Runs::new(rt.alloc());
@@ -65,7 +65,7 @@ fn a_read_that_fails_ends_the_run(rt: HostRuntime) {
 }
 
 impl Runs {
-    // A run that ends with a failed write after this output.
+    // Tries a run that ends with a failed write after the output `out`.
     fn breaks(&mut self, run: Run<'_>, out: &[u8]) {
         let (out, end) = (once(out), says(3, "write failed"));
         self.tries(run, End { out, ..end });
@@ -106,7 +106,7 @@ fn a_write_that_fails_ends_the_run(rt: HostRuntime) {
     assert_eq!(rt; runs.seen.ended(21), "");
 }
 
-// What `fhex vectors` prints: each vector passes under each plan.
+// What `fhex vectors` prints: each vector passes, under each plan if it takes one.
 fn lines() -> ArrayString<1_300> {
     let mut lines = ArrayString::new();
     for plan in ["scalar", "sse41", "avx2", "avx512", "neon"] {

@@ -1,4 +1,4 @@
-//! Inputs of each length, of the greatest, and in reads of few bytes.
+//! Inputs of each length up to 2,048 bytes, long inputs, and inputs in short reads.
 
 use crate::run::{DECODE, ENCODE, EVEN, End, Run, Runs, fhex, fhex_stream, many, ok, says};
 use arrayvec::ArrayString;
@@ -66,7 +66,7 @@ fn each_length_is_streamed(rt: HostRuntime) {
     assert_eq!(rt; runs.seen.ended(12_288), "");
 }
 
-// An input of 16,777,216 bytes is the longest; a final newline counts. One without an end is not read to it.
+// The longest input has 16,777,216 bytes, a final newline included. An endless one is not read to its end.
 #[test]
 fn long_inputs_are_served_up_to_the_longest(rt: HostRuntime) {
     let mut runs = Runs::new(rt.alloc());

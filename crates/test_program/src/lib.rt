@@ -1,4 +1,4 @@
-//! Tests of `hex_program`, and of writers that fail. A test has lists of calls, or loops, and the number of its inputs.
+//! Tests of `hex_program`, and of writers that fail. A test has lists of calls or loops, and counts its inputs.
 #![tactic(auto)]
 
 // Calls a method once for each list of arguments.

@@ -1,4 +1,4 @@
-//! Texts, lists and pieces that are longer than a row can write.
+//! Texts, lists and pieces of some 300,000 bytes or lines, and the capacity for an input.
 
 use hex_core::CheckCase;
 use hex_io::digests::{read, write_to};
@@ -9,7 +9,7 @@ use std::alloc::Global;
 // How many bytes are printed or put, and how many lines are read.
 const MANY: usize = 300_000;
 
-// Whether a view prints its digits alone, with the flag `#` too.
+// Returns whether a view prints its digits alone, also with the flag `#`.
 fn is_printed(alloc: Global) -> Option<bool> {
     let bytes = Vec::from_elem(alloc, 0xaa, MANY).ok()?;
     let digits = Vec::from_elem(alloc, b'a', 2 * MANY).ok()?;
@@ -25,7 +25,7 @@ fn a_long_view_prints_its_digits_alone(rt: HostRuntime) {
     assert!(rt; is_printed(rt.alloc()) == Some(true));
 }
 
-// Whether a list is read, and its entries are written as it stands.
+// Returns whether a list is read, and its entries are written as the same text.
 fn is_listed(alloc: Global) -> Option<bool> {
     let mut list = Vec::new(alloc);
     for _ in 0..MANY {
@@ -42,7 +42,7 @@ fn a_long_list_is_read_and_written(rt: HostRuntime) {
     assert!(rt; is_listed(rt.alloc()) == Some(true));
 }
 
-// Whether a put hands a long piece over in one write, of which a `Vec` takes all.
+// Returns whether a put passes a long piece on in one write, of which a `Vec` takes all.
 fn is_one_write(alloc: Global) -> Option<bool> {
     let piece = Vec::from_elem(alloc, 0xaa, MANY).ok()?;
     let mut sink = WriterSink::new(Vec::new(alloc));
@@ -54,7 +54,7 @@ fn a_long_piece_is_one_write(rt: HostRuntime) {
     assert!(rt; is_one_write(rt.alloc()) == Some(true));
 }
 
-// With capacity for the longest one, and for one more read, 65,536 bytes.
+// The capacity is at most that of the longest input and of one more read, 65,536 bytes.
 #[test]
 fn an_input_takes_no_more_memory_than_the_longest(rt: HostRuntime) {
     let held = read_input(rt.alloc(), &mut b"hello".as_slice());

@@ -10,7 +10,7 @@ use hex_program::operation::run_in;
 use std::fmt::{self, Display};
 use test_kit::fakes::Pattern;
 
-// The result of a run: of one that puts all, of one whose writer fails or takes nothing, and of one without memory.
+// The result of a run. `PUT` is that of a run that puts all, and the other constants are errors.
 #[derive(Clone, Copy, PartialEq, Eq)]
 struct Ended(Result<(), RunFault>);
 
@@ -24,7 +24,7 @@ const NO_MEMORY: Ended = Ended(Err(OutOfMemory));
 
 const ODD: Ended = Ended(Err(Codec(OddLength)));
 
-// The result of a run over digits of which one is invalid.
+// The result of a run over digits with an invalid byte.
 fn invalid(index: usize, byte: u8) -> Ended {
     Ended(Err(Codec(InvalidChar { index, byte })))
 }
@@ -85,8 +85,8 @@ fn each_length_is_put(rt: HostRuntime) {
 }
 
 impl Runs {
-    // An operation with this result and this output, if nothing fails: over writers of different room, and with an
-    // allocator that refuses all that decoding asks for.
+    // Tries an operation whose result is `want` and whose output is `out` if nothing fails: with writers of different
+    // room, and with an allocator that refuses all that decoding asks for.
     fn limits(&mut self, words: &[&str], input: &[u8], want: Ended, out: &[u8], asked: u64) {
         let run = fhex(words, input);
         for room in 0..17 {
@@ -105,7 +105,7 @@ impl Runs {
     }
 }
 
-// Only decoding of an even number of digits, which is not 0, allocates, and once.
+// Only decoding allocates, once, and only for an even number of digits other than 0.
 #[test]
 fn a_run_puts_what_fits_or_says_what_is_wrong(rt: HostRuntime) {
     let mut runs = Runs::new(rt.alloc());

@@ -18,7 +18,7 @@ pub const DECODE: [&str; 3] = ["decode", "decode-lower", "decode-upper"];
 /// The message about an odd number of digits.
 pub const EVEN: &str = "hex input length must be even";
 
-/// Returns these bytes.
+/// Returns a pattern of these bytes alone.
 pub fn once(end: &[u8]) -> Pattern<'_> {
     Pattern::once(end)
 }
@@ -29,7 +29,7 @@ pub fn many<'a>(count: usize, unit: &'a [u8], end: &'a [u8]) -> Pattern<'a> {
     Pattern { count, unit, end }
 }
 
-/// What a writer takes: all; so many bytes, before one write fails; all but the first write, which takes nothing and
+/// What a writer takes: all; a number of bytes before one write fails; all but the first write, which takes nothing and
 /// returns no error; or all, but each flush fails.
 #[derive(Clone, Copy, PartialEq, Eq, Debug)]
 pub enum Room {
@@ -53,9 +53,9 @@ impl Room {
     }
 }
 
-/// A run. A buffered one keeps back its output, as `fhex` does. After `granted` allocations each one is refused, or
-/// after `refused` one alone. A read gives at most `every` bytes. `failure` is the system's code of the error after the
-/// input, or 0 if there is none. `out` and `err` say what is taken of the output and of the message.
+/// A run. If `is_buffered` is true, its output is buffered, as in the program `fhex`. After `granted` allocations all
+/// are refused, or after `refused` only the next. A read gives at most `every` bytes. `failure` is the system's code of
+/// the error after the input, or 0 without one. `out` and `err` say what is taken of the output and of the message.
 #[derive(Clone, Copy)]
 pub struct Run<'a> {
     pub is_stream: bool,
@@ -93,7 +93,7 @@ pub fn fhex_stream<'a>(words: &'a [&'a str], input: &'a [u8]) -> Run<'a> {
     run
 }
 
-// As a text about a run shows it.
+// The run as the text about a wrong result shows it.
 impl Display for Run<'_> {
     fn fmt<W: fmt::Write>(&self, f: &mut fmt::Formatter<W>) -> fmt::Result {
         for i in 0..self.words.len() {
@@ -145,8 +145,8 @@ impl<'a> Run<'a> {
         }
     }
 
-    // Returns whether the output is flushed: after all that it is to take, and not after a failed write. `fhex-stream`
-    // flushes what it wrote before an error of the input or a failed read.
+    // Returns whether the output is flushed: after all of it, and not after a failed write. `fhex-stream` also flushes
+    // what it wrote before an error of the input or a failed read.
     fn is_flushed(self, status: u8) -> bool {
         let is_read_failure = self.is_stream && self.failure > 0;
         match status {
@@ -185,7 +185,7 @@ pub fn says(status: u8, message: &str) -> End<'_> {
     }
 }
 
-// Runs `fhex` over an output that is kept back in a buffer of 65,536 bytes.
+// Runs `fhex` with a buffer of 65,536 bytes for its output.
 fn serve_buffered<'a>(
     alloc: Global,
     words: &[&str],
@@ -216,7 +216,7 @@ impl Runs {
     /// Tries a run, and compares how it ends with how it must.
     pub fn tries(&mut self, run: Run<'_>, want: End<'_>) {
         self.seen.tries();
-        // A message is written whole, with its newline, unless the room ends it.
+        // A message is written whole, with its newline, unless the writer has no room for it.
         let is_whole = !want.message.is_empty() && !matches!(run.err, Room::Limited(_));
         let end: &[u8] = if is_whole { b"\n" } else { b"" };
         let line = many(want.message.len(), want.message.as_bytes(), end);
@@ -259,7 +259,7 @@ impl Runs {
         self.seen.is(run, "all given back", is_settled, true);
     }
 
-    // Compares what a run read: nothing behind the end, in few reads, and nothing without an operation.
+    // Compares what a run read: all but `want.left` bytes of the end, in few reads, and nothing without an operation.
     fn is_read(&mut self, run: Run<'_>, want: End<'_>, giver: &Giver<'_>) {
         let left = giver.left().min(run.input.end.len());
         self.seen.is(run, "bytes left", left, want.left);

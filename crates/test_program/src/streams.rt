@@ -1,5 +1,4 @@
-//! Runs of `fhex-stream`. What it wrote is flushed, whatever happened, but for a failed write: that is not written
-//! again.
+//! Runs of `fhex-stream`. It flushes its output also before it reports an error, but not after a failed write.
 
 use crate::run::Room::*;
 use crate::run::{End, Run, Runs, fhex_stream, ok, once, says};
@@ -9,7 +8,7 @@ const USAGE: &str = "usage: fhex-stream encode|encode-lines|decode";
 const FAILED: &str = "fhex-stream: write failed";
 
 impl Runs {
-    // A run that fails after this output.
+    // Tries a run that fails after the output `out`.
     fn fails(&mut self, run: Run<'_>, status: u8, out: &[u8], message: &str) {
         let (out, end) = (once(out), says(status, message));
         self.tries(run, End { out, ..end });

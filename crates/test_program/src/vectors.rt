@@ -1,4 +1,4 @@
-//! How a stored vector runs, and what each one has.
+//! How a vector runs, and what each stored vector has.
 
 use hex_core::CheckCase::{Lower, None as Either, Upper};
 use hex_core::Error::{self, InvalidChar, OddLength, OutputTooSmall};
@@ -12,14 +12,14 @@ use test_kit::model;
 use test_kit::seen::{Given, Seen};
 use test_kit::source::with;
 
-// Calls a method once for each vector: call, source, result and destination.
+// Calls a method once for each vector: name, call, source, result and destination.
 macro_rules! vectors {
     ($tested:ident.$method:ident: $($name:literal $call:expr, $source:expr, $answer:expr, $left:expr;)*) => {
         $($tested.$method(Vector { name: $name, call: $call, source: $source, answer: $answer, left: $left });)*
     };
 }
 
-// One that passes.
+// A vector that passes.
 const SOUND: Vector<'static> = Vector {
     name: "sound",
     call: Decode(Either),
@@ -33,7 +33,7 @@ const FAILED: &[u8] = b"\
     scalar v fail\nscalar sound pass\nsse41 v fail\nsse41 sound pass\navx2 v fail\navx2 sound pass\n\
     avx512 v fail\navx512 sound pass\nneon v fail\nneon sound pass\ntotal 10 passed 5 failed 5\n";
 
-// What a run prints of a failing vector that takes no plan, as those of groups and lists, and of a sound one after it.
+// What a run prints of a failing vector of groups or lists, which takes no plan, and of a sound one after it.
 const FAILED_PLAIN: &[u8] = b"\
     scalar sound pass\nsse41 sound pass\navx2 sound pass\navx512 sound pass\nneon sound pass\n\
     plain v fail\ntotal 6 passed 5 failed 1\n";
@@ -53,8 +53,8 @@ impl Vectors {
         Vectors { seen, alloc, place }
     }
 
-    // Compares how a run of a vector and of a sound one after it ends, and what it prints if the vector fails; and how
-    // a run ends that has the vector twice.
+    // Runs a vector and a sound one after it, and compares the status and, if the vector fails, the lines. Then runs
+    // the vector twice, and compares the status.
     fn ends(&mut self, vector: Vector<'_>, fails: bool) {
         self.seen.tries();
         let given = Given::new(Either, vector.left.len(), vector.source);
@@ -79,7 +79,7 @@ impl Vectors {
         self.ends(vector, true);
     }
 
-    // Compares the next stored vector.
+    // Compares the next stored vector with this one.
     fn stores(
         &mut self,
         name: &str,
@@ -99,8 +99,8 @@ impl Vectors {
     }
 }
 
-// What fails: other bytes, fewer, more, an error, none, another one, too little room; another call; other bytes behind
-// those that are written, or where none are; more room than there is. The last ones pass.
+// A vector fails if it states other bytes, fewer, more, an error, none, another error, too little room or another call;
+// other bytes behind those that are written, or where none are; or more room than there is. The last vectors pass.
 #[test]
 fn a_vector_fails_unless_all_that_it_states_is_right(rt: HostRuntime) {
     let mut vectors = Vectors::new(rt.alloc());
@@ -129,9 +129,9 @@ fn a_vector_fails_unless_all_that_it_states_is_right(rt: HostRuntime) {
     assert_eq!(rt; vectors.seen.ended(18), "");
 }
 
-// What fails of groups and lists: a separator elsewhere, a byte behind, another case; another place of an error, a
-// destination that changed; of an entry that is read another digest, mark or name, digits of another policy, a second
-// one and no list; of one that is written another case, mark or name, fewer bytes, another number, and no entry.
+// A vector of groups fails for a separator elsewhere, a byte behind the text, another case, another place of an error,
+// and a changed destination; one that reads a list for another digest, mark or name, digits of another policy, a second
+// entry and no list; one that writes a list for another case, mark or name, fewer bytes, another number and none.
 #[test]
 fn a_vector_of_groups_or_lists_fails_unless_all_is_right(rt: HostRuntime) {
     let mut vectors = Vectors::new(rt.alloc());

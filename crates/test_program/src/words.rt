@@ -1,4 +1,4 @@
-//! The words of `fhex`: what each operation writes, and which words name none.
+//! The words of `fhex`: what each operation writes, and which words name no operation.
 
 use crate::run::Room::*;
 use crate::run::{DECODE, EVEN, Run, Runs, fhex, ok, says};
@@ -9,7 +9,7 @@ use test_kit::prints;
 
 const USAGE: &str = "usage: fhex encode|encode-upper|decode|decode-lower|decode-upper|vectors";
 
-// The last ones have a message that is not written whole, or not flushed. It keeps its status.
+// In the last runs the message is not written whole, or not flushed, and the status stays the same.
 #[test]
 fn an_operation_writes_its_output_or_says_what_is_wrong(rt: HostRuntime) {
     let mut runs = Runs::new(rt.alloc());

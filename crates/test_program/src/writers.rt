@@ -1,4 +1,4 @@
-//! A writer that answers by a script, below a sink and below `Unretried`.
+//! A writer that answers by a script, inside a sink and inside `Unretried`.
 
 use hex_io::{Hex, HexFlags, Sink, SinkFault, WriteFault, WriterSink};
 use hex_program::Unretried;
@@ -6,7 +6,7 @@ use std::alloc::Global;
 use std::io::{self, ErrorKind, Write};
 use test_kit::fakes::{Pattern, Taker, Told, WORDS};
 
-// How many bytes each put has, what they are, one piece after another, and what the writer answers.
+// The length of each put, the pieces one after another, what the writer answers, and what it takes.
 const LENGTHS: [usize; 19] = [0, 3, 2, 2, 2, 0, 2, 1, 1, 1, 1, 0, 2, 1, 1, 1, 1, 2, 1];
 
 const PUT: &[u8] = b"abcbcbcdedeffffghhijkabb";
@@ -17,7 +17,7 @@ const ANSWERS: [Told; 19] = [
 
 const TAKEN: &[u8] = b"abcdefgha";
 
-// Whether an error is the one of this code.
+// Returns whether an error is that of `code`, which is 1 for an error with the message `WORDS`.
 fn is_its_error(alloc: Global, error: &io::Error, code: i32) -> bool {
     if code != 1 {
         return error.raw_os_error() == Some(code);
@@ -26,8 +26,8 @@ fn is_its_error(alloc: Global, error: &io::Error, code: i32) -> bool {
     is_shown && error.kind() == ErrorKind::TimedOut && error.raw_os_error().is_none()
 }
 
-// What a sink is to report: how many puts have failed, which are those with an error, and those of some
-// bytes that took none; and the code of the last error.
+// What a sink must report: the number of failed puts, and the code of the last error. A put fails if the
+// writer answers with an error, or takes nothing of a piece that is not empty.
 #[derive(Clone, Copy)]
 struct State {
     failures: u64,
@@ -35,7 +35,7 @@ struct State {
 }
 
 impl State {
-    // What it is to report after a put of this piece.
+    // Returns what the sink must report after a put of `piece`, answered by `told`.
     fn behind(self, piece: &[u8], told: Told) -> State {
         let is_failed = told < 0 || told == 0 && !piece.is_empty();
         State {
@@ -48,7 +48,7 @@ impl State {
         }
     }
 
-    // Whether a sink reports it.
+    // Returns whether a sink reports this state.
     fn is_told(self, alloc: Global, sink: &WriterSink<Taker<'_>>) -> bool {
         let is_kept = match (sink.last_error(), self.kept) {
             (Some(error), Some(code)) => is_its_error(alloc, error, code),
@@ -58,8 +58,8 @@ impl State {
     }
 }
 
-// Whether each put answers as the writer does, with one call of it, which is given the whole piece, and
-// none to flush it.
+// Returns whether each put passes its whole piece on in one write, returns what the writer answers, and
+// flushes nothing.
 fn are_put(alloc: Global) -> bool {
     let mut writer = Taker::new(Pattern::once(TAKEN));
     writer.script = &ANSWERS;
@@ -95,7 +95,7 @@ fn a_put_is_one_write_whatever_the_writer_answered(rt: HostRuntime) {
     assert!(rt; are_put(rt.alloc()));
 }
 
-// Whether a text of which one byte is taken ends with the error after it, and no third write.
+// Returns whether writing a text ends with the error of the second write, after one byte and without a third write.
 fn ends_at_the_error(alloc: Global) -> bool {
     let mut writer = Taker::new(Pattern::once(b"a"));
     writer.script = &[1, -32];
@@ -115,7 +115,7 @@ fn a_writer_that_fails_is_not_asked_again(rt: HostRuntime) {
     assert!(rt; ends_at_the_error(rt.alloc()));
 }
 
-// Whether a write that fails otherwise is reported with its own error, and a flush is passed on.
+// Returns whether `Unretried` passes on the error of a write that was not interrupted, and the result of a flush.
 fn is_passed_on(alloc: Global, code: i32, flush: Result<(), i32>) -> bool {
     let script = [code.wrapping_neg()];
     let mut inner = Taker::new(Pattern::once(b""));

@@ -1,7 +1,6 @@
 //! Decodes digits that come in chunks of any length, for instance from a file or a socket.
 //!
-//! Encoding in chunks needs no state, because the text of two lists joined is their two texts
-//! joined.
+//! Encoding in chunks needs no state: the text of two joined lists is the texts of both, joined.
 //!
 //! ```rust
 //! let mut text = [0; 6];
@@ -26,8 +25,7 @@ use hex_core::{Backend, CheckCase, Error, digit_value};
 // The number of bytes from which white space is removed at once, if a caller gives no buffer.
 const SPACED_BLOCK: usize = 2_048;
 
-// How a source is read, which means by which policy, and whether white space among its digits is
-// skipped.
+// How a source is read: by which policy, and whether white space among the digits is skipped.
 #[derive(Clone, Copy, Debug, PartialEq, Eq)]
 struct Reading {
     case: CheckCase,
@@ -280,8 +278,8 @@ impl Decoder {
         Err(self.error_in(src))
     }
 
-    // Feeds a chunk that has no error. Otherwise returns `None` and changes nothing. The digits given are
-    // those of the chunk, or the chunk itself, because if all of it is valid, it has no white space.
+    // Feeds a chunk, or returns `None` and changes nothing if the chunk has an error. `digits` are
+    // those of the chunk, or the chunk itself, in which white space then counts as an error.
     fn feed_valid(&mut self, src: &[u8], digits: &[u8], dst: &mut [u8]) -> Option<usize>
         requires digits { (digits.now ≡ src.now) ⊎ (digits.now ≡ digits_in (reading_of self.old) src.now) }
         ensures feeds { MatchOption result ((self.new ≡ self.old) × (dst.new ≡ dst.old))
@@ -306,7 +304,7 @@ impl Decoder {
         Some(required)
     }
 
-    // Returns how many pairs of digits are whole once `digits` more of them are fed.
+    // Returns how many pairs of digits are whole once `digits` more digits are fed.
     fn whole_pairs(&self, digits: usize) -> usize
         ensures { result ≡ (length (waiting_in self.now) + digits) / 2 }
     {
@@ -322,7 +320,7 @@ impl Decoder {
             && digit_value(*byte, case).is_none())
     }
 
-    // Returns that byte as an error, with its index in all bytes fed.
+    // Returns the error for the byte that `first_invalid_read` finds, with its index in all bytes fed.
     #[cold]
     fn error_in(&self, src: &[u8]) -> Error
         requires invalid { first_invalid_read (reading_of self.now) src.now ≢ None }
@@ -338,8 +336,8 @@ impl Decoder {
 }
 
 // Returns how many bytes of a source are not white space, and whether all of these are digits. It
-// copies the digits of a block and tests them in vectors, because byte by byte this takes ten times
-// as long.
+// copies the digits of a block and tests them in vectors. To test byte by byte would take ten times as
+// long.
 fn survey(src: &[u8], case: CheckCase) -> (usize, bool)
     ensures count { result.0 ≡ length (unspaced src.now) }
     ensures clean { IsTrue result.1 ↔ (first_invalid_read (spaced case) src.now ≡ None) }

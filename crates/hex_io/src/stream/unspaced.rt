@@ -7,7 +7,7 @@ ghost use Rattle.hex_io.specs.inside.{HasCopied};
 
 use std::simd::prelude::*;
 
-// The number of bytes that are tested at once, and of those that are copied at once.
+// The number of bytes that are tested at once, and that are copied at once.
 const LANES: usize = 32;
 
 /// Copies the bytes of `src` that are not white space to the start of `block`. Returns their
@@ -18,8 +18,8 @@ pub fn copy_unspaced(src: &[u8], block: &mut [u8]) -> usize
     ensures room { result ≤ length block.new }
 {
     let mut count = 0;
-    // A run is copied with some bytes after it. There are such bytes after each whole block except
-    // the last one.
+    // A run is copied by a whole vector, so with some bytes after it. Each whole block except the last
+    // one has such bytes after it.
     let blocks = (src.len() / LANES).saturating_sub(1);
     'turns: for i in 0..blocks {
         count = copy_runs(src, LANES * i, block, count);
@@ -27,9 +27,9 @@ pub fn copy_unspaced(src: &[u8], block: &mut [u8]) -> usize
     copy_each(src, LANES * blocks, block, count)
 }
 
-// Does the same as `copy_unspaced` for the `LANES` bytes from index `start` on, which it copies
-// after the `had` bytes in the block. A run ends before each byte that may be white space. That byte
-// is copied only if it is not white space.
+// Does the same as `copy_unspaced` for the `LANES` bytes from index `start` on, and puts them behind
+// the `had` bytes in the block. A run ends at each byte that may be white space. If it is not white
+// space, it is copied too.
 #[inline(always)]
 fn copy_runs(src: &[u8], start: usize, block: &mut [u8], had: usize) -> usize
     requires near { start + 2 * LANES ≤ length src.now }
@@ -40,7 +40,7 @@ fn copy_runs(src: &[u8], start: usize, block: &mut [u8], had: usize) -> usize
     let end = start + LANES;
     let mut at = start;
     let mut count = had;
-    // Bit i is set exactly if lane i is at most a space. All white space is.
+    // Bit i is set exactly if lane i is at most a space, as all white space is.
     let lanes = u8x32::from_slice(&src[start..]);
     let mut marks = lanes.simd_le(Simd::splat(b' ')).to_bitmask();
     'runs: while marks != 0 {

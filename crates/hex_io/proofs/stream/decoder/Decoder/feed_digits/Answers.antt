@@ -9,7 +9,7 @@ error_in-requires-clause-invalid c =
     let r = c.args.self.now.reading in
     let same : c.feed_valid.new.self ≡ c.args.self.now = search rules in
     λ none. c.feed_valid.ensures.refused (search rules) (search rules) (omega (arith, c.whole_pairs-required.ensures, ap (λ d. length (waiting_in d)) same, c.if-dst-required.false))
-        (rw c.requires.digits ((digits-valid r.case r.skips c.args.src.now).0 (rw same at none)))
+    (rw c.requires.digits ((digits-valid r.case r.skips c.args.src.now).0 (rw same at none)))
 
 pub returns-clause-feeds : goal.returns-clause-feeds
 returns-clause-feeds c = λ fed written has.
