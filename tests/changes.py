@@ -1,4 +1,4 @@
-"""The changed copies of assembly that the files changes.txt in machine/x86_64 and machine/aarch64 list."""
+"""Makes the changed copies of assembly that the files changes.txt in machine/x86_64 and machine/aarch64 list."""
 import re
 from types import SimpleNamespace
 
@@ -6,13 +6,13 @@ from commands import TOP
 
 
 def rows(name):
-    """The rows of a file. A line that begins with a space goes on with the row before."""
+    """The rows of a file. A line that begins with a space continues the row before it."""
     text = re.sub(r"\n +", " ", (TOP / "tests/machine" / name).read_text())
     return [it for it in text.splitlines() if it[0] != "#"]
 
 
 def read(row):
-    """What a row says. In place of the rules, `text` is the changed assembly."""
+    """What a row says. It has the changed assembly, `text`, in place of the rules that change it."""
     where, *rules, wrong = row.split(" | ")
     build, call, *words = where.split()
     functions = [it for it in words if not it[0].isdigit()]
@@ -22,7 +22,7 @@ def read(row):
 
 
 def changed(build, function, rules=()):
-    """The assembly of a build in which lines of a function are changed. A rule changes one line or each that fits."""
+    """The assembly of a build with changed lines in a function. A rule changes one line or each that fits."""
     text = (TOP / f"generated/{build if build == 'aarch64' else f'x86-64-{build}'}.s").read_text()
     begin, end = 0, len(text)
     if function != "anywhere":

@@ -1,4 +1,4 @@
-"""A processor of aarch64 by qemu, which runs machine code with any registers and memory. c/registers.c runs there."""
+"""Runs machine code of aarch64 with any registers and memory, by qemu. The program c/registers.c does it there."""
 import struct
 import subprocess
 from dataclasses import dataclass, field
@@ -7,9 +7,9 @@ from commands import ARM_CC, ON_ARM, TESTS_IN_C, compiled, needs
 
 MAP, WRITE, READ, RUN = range(4)
 PAGE, SECONDS = 4096, 10
-# The signal that an instruction `brk` raises, which ends code as it should, and this instruction.
+# The signal that an instruction `brk` raises, by which code without a fault ends, and this instruction.
 TRAP, BRK = 5, bytes.fromhex("000020d4")
-# What c/registers.c calls the state: x0 to x30, sp, pc, the flags and v0 to v31, each vector as two numbers.
+# The struct `state` of c/registers.c: x0 to x30, sp, pc, the flags, v0 to v31, each as two numbers, and the signal.
 STATE = struct.Struct("<99Q")
 
 
@@ -29,10 +29,10 @@ def built(folder):
 
 
 class Emulator:
-    """A process of qemu that runs this program."""
+    """A process of qemu that runs the program registers."""
 
     def __init__(self, program):
-        # This one has what all processors of aarch64 have, and not SVE, with which qemu keeps vectors in another place.
+        # A cortex-a72 has what all processors of aarch64 have. With SVE, qemu would keep vectors in another place.
         words = [*ON_ARM.split(), "-cpu", "cortex-a72", program]
         self.process = subprocess.Popen(words, stdin=subprocess.PIPE, stdout=subprocess.PIPE)
 
@@ -53,7 +53,7 @@ class Emulator:
         return said
 
     def map(self, at, size):
-        """Makes memory of zeros, in whole pages. What is in none of them can't be accessed."""
+        """Makes memory of zeros, in whole pages. An access outside of all such pages is a fault."""
         self.says(MAP, at, size)
 
     def write(self, at, given):
@@ -76,7 +76,7 @@ class Emulator:
                 self.write(base + at, data[offset:offset + size])
 
     def run(self, it):
-        """Runs code with these registers. Returns them as they are at the end, and the signal that ended it."""
+        """Runs code with these registers. Returns the registers at its end, and the signal that ended it."""
         vectors = [number >> bits & 2**64 - 1 for number in it.v for bits in (0, 64)]
         numbers = [*it.x, it.sp, it.pc, it.flags, *vectors, 0]
         self.says(RUN, 0, SECONDS, given=STATE.pack(*numbers))

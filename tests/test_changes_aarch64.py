@@ -1,4 +1,4 @@
-"""The changed copies of calls for aarch64 that machine/ must refuse are wrong when qemu runs them."""
+"""The changed copies of calls for aarch64 that machine/ must refuse are wrong under qemu, except the unseen ones."""
 import random
 import re
 from dataclasses import dataclass
@@ -16,20 +16,20 @@ from machine.statements import CALLS, DONE, INVALID, ODD_LENGTH, OVERFLOW, POLIC
 # Where the code is, and where the memory for the source, for the destination and for the stack ends.
 CODE, SOURCE, DESTINATION, STACK = (it << 35 for it in range(2, 6))
 RETURN = CODE - PAGE
-# The most bytes of a source, but of those that have zeros in the middle, and the size of the caller's frame.
+# The most bytes of a source without a gap of zeros, the size of the caller's frame, and what fills other memory.
 LONGEST, FRAME, FILL = 8 * PAGE, 256, 0xaa
 DIGITS = b"0123456789abcdefABCDEF", b"0123456789abcdef", b"0123456789ABCDEF"
 # The registers that belong to the caller: x19 to x29, and the lower halves of v8 to v15.
 KEPT, HALVES_KEPT = range(19, 30), range(8, 16)
 # How many cases are tried, and how many of those with a length above 2^32.
 TRIES, FEW = 2000, 20
-# What begins the last column of a row whose fault cannot be seen by running the code.
+# The last column of a row begins with this if no run of the code shows the fault.
 UNSEEN = "unseen: "
 
 
 @dataclass
 class Case:
-    """The arguments of a call. If there is a gap, so many zeros are in the source after its first page."""
+    """The arguments of a call. If there is a gap, the source has so many zeros after its first page."""
     call: str
     given: bytes
     gap: int
@@ -43,7 +43,7 @@ class Case:
 
     @property
     def is_there(self):
-        """Whether there is memory for the source. Only a source that is not read may be longer."""
+        """Whether there is memory for the source. A longer source is only given to calls that do not read it."""
         return self.length < 2**33
 
     @property
@@ -55,7 +55,7 @@ class Case:
         return word in CALLS[self.call].split()
 
     def invalid(self):
-        """The index of the first byte that is no digit and this byte, or None."""
+        """The index of the first byte that is no digit, and this byte, or None if all are digits."""
         if self.call == "encode":
             return None
         if self.gap:
@@ -76,7 +76,7 @@ class Case:
         return (found[0], INVALID, found[1]) if found else (self.needed, DONE, 0)
 
     def destination(self):
-        """What the destination has to hold in the end."""
+        """What the destination must hold at the end."""
         text = self.given.hex() if self.call == "encode" else self.given.decode("latin-1")
         written = b""
         if self.has("room") and self.answer()[1] == DONE:
@@ -98,13 +98,13 @@ def drawn(call, length, chance):
     it = Case(call, bytes(given), gap, 0, policy, chance.random() < 0.5)
     it.room = max(it.needed + chance.choice((0, 0, 0, 7, -1)), 0) % 2**64
     if gap and (is_encoding or not it.is_there) and it.needed:
-        # There is no memory for the digits of such a source, or none for the source.
+        # The room is too small, because there is no memory for so many digits, or none for the source.
         it.room = chance.randrange(min(it.needed, 2**64))
     return it
 
 
 def before(case, at, chance):
-    """The registers before a call. What is no argument is random, as what is above an argument of one byte."""
+    """The registers before a call. Those without an argument are random, and so is what is above one of a byte."""
     it = Registers([chance.getrandbits(64) for _ in range(31)], STACK - FRAME, at, chance.randrange(16) << 28,
                    [chance.getrandbits(128) for _ in range(32)])
     known = {"source": SOURCE - case.length, "length": case.length, "destination": DESTINATION - case.room,
@@ -117,7 +117,7 @@ def before(case, at, chance):
 
 
 def memory(case, destination):
-    """What is at some addresses. Before source and destination a page is filled."""
+    """What is at some addresses. Without a gap, the page before the source is filled, as before the destination."""
     filled = bytes([FILL]) * PAGE
     found = {DESTINATION - len(destination) - PAGE: filled + destination, STACK - FRAME: filled[:FRAME]}
     if not case.gap:
@@ -127,7 +127,7 @@ def memory(case, destination):
 
 
 def answers_rightly(emulator, at, case, chance):
-    """Whether a call answers rightly, writes what it has to, and keeps the caller's registers and other memory."""
+    """Whether a call answers rightly, writes what it must, and keeps the caller's registers and other memory."""
     for place, it in memory(case, bytes([FILL]) * min(case.room, LONGEST)).items():
         emulator.write(place, it)
     given = before(case, at, chance)
@@ -150,7 +150,7 @@ def length_of(least, lengths, chance):
 
 
 def is_wrong(emulated, folder, text, call, least, lengths):
-    """Whether qemu shows for one of some random cases that a call of this assembly is wrong."""
+    """Whether a call of this assembly is wrong in one of the random cases in which qemu runs it."""
     (folder / "made.S").write_text(text)
     words = "-static", "-nostdlib", "-Wl,-e,0", f"-Wl,-Ttext-segment={CODE:#x}", f"-I{TOP}/generated"
     runs([ARM_CC, *words, "-o", folder / "made", folder / "made.S"])
@@ -174,7 +174,7 @@ def is_wrong(emulated, folder, text, call, least, lengths):
 @pytest.mark.parametrize("least", [0, 257, 2**32])
 @pytest.mark.parametrize("call", CALLS)
 def test_right(tmp_path, emulated, call, least):
-    """What judges the changed copies below finds the code right."""
+    """The function that judges the changed copies below finds the shipped code right."""
     lengths = [2**33 + 2, 2**63] if least > LONGEST and "room" in CALLS[call] else []
     text = changes.changed("aarch64", call)
     assert not is_wrong(emulated, tmp_path, text, call, least, [])

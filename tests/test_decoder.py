@@ -1,5 +1,5 @@
-"""Random encodings of instructions. What machine/ reads and executes must be what the processor does, and what the
-processor refuses must be refused. An encoding that machine/ refuses may be anything."""
+"""Compares random encodings of instructions with the processor. What machine/ executes must have the effect that the
+processor gives to it, and what the processor refuses must be refused. What machine/ refuses may be anything."""
 import ctypes
 import operator
 import os
@@ -16,22 +16,24 @@ z3 = pytest.importorskip("z3")
 pytest.importorskip("capstone")
 from commands import CC, SEED, TESTS_IN_C, needs, runs
 from machine import Refused, execution, values
-from machine.code import assembles
 from machine.image import Image
 from machine.state import STACK, State
+from machine.x86_64 import PROCESSOR
+from machine.x86_64.code import assembles
 
 # For how many seconds encodings are tried, and how many are read at once.
 SECONDS, AT_ONCE = int(os.environ.get("SECONDS_OF_ENCODINGS") or 60), 1500
-# Each encoding has so many bytes of its own. The bytes after it are one-byte nops, with which objdump finds the next
-# one again, and which a jump back replaces.
+# Each encoding has a slot of so many bytes. The rest of a slot is one-byte nops, so that objdump finds the beginning of
+# the next encoding. When an encoding is run, a jump back replaces the nops after it.
 SLOT, LONGEST, NOP = 32, 15, b"\x90"
 CODE, MEMORY, PAGE = 0x2_0000_0000, 0x3_0000_0000, 4096
 # The memory that is compared is what the model of the stack has: from the red zone to the return address. The numbers
-# are distances from the stack pointer, which is 8 bytes above an aligned address. There rdi points to an aligned one.
+# are distances from the stack pointer, which is 8 bytes above an aligned address. The last one is that of an aligned
+# address, to which rdi points.
 BELOW, ABOVE, PLACE = -128, 8, -72
 STACK_AT = MEMORY + 2056
 NAMES = "rax rcx rdx rbx rsp rbp rsi rdi r8 r9 r10 r11 r12 r13 r14 r15".split()
-# Bytes of registers and memory. Some come more often.
+# Bytes for registers and memory. Those at boundaries are more frequent.
 NUMBERS = [*range(256), *(0, 1, 127, 128, 255) * 100]
 FLAGS = {"c": 0, "z": 6, "s": 7, "o": 11}
 HAS_FLAG = {flag: (lambda it, bit=bit: z3.Extract(bit, bit, it) == 1) for flag, bit in FLAGS.items()}
@@ -40,19 +42,19 @@ USED = bytes.fromhex("fc dc fd f8 d8 da de d5 00 db eb 76 7e 25 27 71 6f 7f 30 7
 
 
 class Registers(ctypes.Structure):
-    """As in decoder.c."""
+    """The struct `state` of decoder.c."""
     _fields_ = [("registers", ctypes.c_uint64 * 16), ("flags", ctypes.c_uint64), ("unused", ctypes.c_uint64 * 7),
                 ("vectors", ctypes.c_ubyte * 64 * 16)]
 
 
 def any_of(chance, common, seldom):
-    """One of what is common, or seldom any byte."""
+    """One of the common bytes, or seldom any byte."""
     return chance.choice(common) if chance.random() > seldom else chance.randrange(256)
 
 
 def operands(chance):
-    """The byte that names the operands, with bytes after it. It names two registers, or one and memory at rdi, or
-    seldom anything."""
+    """The byte that names the operands, with bytes after it. It names two registers, or a register and memory at rdi,
+    or seldom anything."""
     way, rest = chance.random(), chance.randbytes(LONGEST)
     if way < 0.7:
         return bytes([0xc0 | chance.randrange(64)]) + rest
@@ -78,7 +80,7 @@ def vex(chance):
     if chance.random() < 0.3:
         begin = bytes([0xc5, chance.randrange(256)])
     else:
-        # Many instructions have no second source, for which there must be ones.
+        # Many instructions have no second source. The bits that name it must then be ones.
         fields = chance.randrange(256) | chance.choice((0x78, 0))
         begin = bytes([0xc4, chance.randrange(8) << 5 | chance.choice((1, 2, 3)), fields])
     return prefixes(chance, 0.05) + begin + chance.randbytes(1) + operands(chance)
@@ -125,7 +127,7 @@ def imaged(folder, slots):
 
 
 def any_state(chance):
-    """Registers and vectors of an instruction, and the memory."""
+    """Random registers, flags and vectors before an instruction, and random memory."""
     numbers = lambda count: bytes(chance.choices(NUMBERS, k=count))
     it = Registers.from_buffer_copy(numbers(ctypes.sizeof(Registers)))
     it.registers[4], it.registers[7] = STACK_AT, STACK_AT + PLACE
@@ -135,7 +137,7 @@ def any_state(chance):
 
 def state_of(at, given, memory):
     """The same state in the model."""
-    state = State(at)
+    state = State(at, PROCESSOR)
     state.registers = {name: values.constant(given.registers[it], 8) for it, name in enumerate(NAMES)}
     place = values.apply(operator.add, STACK, values.constant(PLACE, 8))
     state.registers |= {"rsp": STACK, "rdi": place}
@@ -146,19 +148,19 @@ def state_of(at, given, memory):
 
 
 def is_number(value, number, size):
-    """Whether a value of so many bytes is a number. Most of them are constants, which are kept."""
+    """Whether a value of so many bytes is a number. Most values are constants, of which each exists only once."""
     return value is values.constant(number, size) or number_of(value) == number
 
 
 def number_of(value):
-    """What a value is where the stack stands, or None if it is not known."""
+    """The number or truth value of a value if the stack is where the processor has it, or None if it is not known."""
     it = z3.simplify(z3.substitute(value.term, (STACK.term, z3.BitVecVal(STACK_AT, 64))))
     return it.as_long() if z3.is_bv_value(it) else z3.is_true(it) if z3.is_true(it) or z3.is_false(it) else None
 
 
 def modelled(image, read, given, memory):
-    """The state after an instruction in the model, or None if this does not go on to the next instruction: it jumps, or
-    what it does depends on where the stack stands."""
+    """The state after an instruction in the model, or None if the instruction does not go on to the next one: it jumps,
+    or its effect depends on where the stack is."""
     machine = execution.Machine(image, values.constant(0, 8), None, None, (), None)
     state = state_of(read.at, given, memory)
     goes_on = machine.advances(state)
@@ -166,8 +168,8 @@ def modelled(image, read, given, memory):
 
 
 def differences(state, done, memory, is_wide):
-    """In what a state of the model differs from the one of the processor. Memory that the model forgot may be
-    anything, and so may a flag that it does not have."""
+    """The differences between a state of the model and the one of the processor. Memory that the model has forgotten
+    may be anything, and so may a flag without a model."""
     for at, name in enumerate(NAMES):
         if not is_number(state.registers[name], done.registers[at], 8):
             yield f"{name}: the model has {number_of(state.registers[name])}, the processor {done.registers[at]}"
@@ -184,7 +186,7 @@ def differences(state, done, memory, is_wide):
 
 
 def faults(image, processor, chance, at, is_wide):
-    """Why an encoding is read or executed wrongly, or an empty list, or None if it is refused or jumps."""
+    """What is wrong with how an encoding is read or executed, as a list, or None if it is refused or jumps."""
     try:
         read = image.instruction(at)
         given, memory = any_state(chance)
@@ -207,7 +209,7 @@ def faults(image, processor, chance, at, is_wide):
 
 
 def is_read_again(read):
-    """Whether the record takes an instruction: of AVX-512, `as` must make the same bytes again."""
+    """Whether the record accepts an instruction. Of one of AVX-512, `as` must make the same bytes again."""
     try:
         assembles([read])
         return True

@@ -1,5 +1,5 @@
-"""Each form of each instruction of aarch64 that has a model in machine/aarch64 does there what it does under qemu: with
-random operands, all registers, flags and memory are compared afterwards. No processor of this kind was asked."""
+"""Each form of each instruction of aarch64 that has a model in machine/aarch64 does there what it does under qemu. All
+registers, flags and memory are compared after random operands. Nothing is compared with hardware."""
 import functools
 import random
 import re
@@ -19,10 +19,10 @@ from machine.image import Image, linked
 from machine.state import IMAGE, STACK, State
 from machine.terms import ZERO, always, never
 
-# Where the code is loaded, where the stack of the model begins, and how many bytes of it there are.
+# Where the code is loaded, the address that the model's stack begins at, and how many bytes below it are compared.
 BASE, BEGIN, SIZE = 2 << 35, 3 << 35, 4096
-# How many texts of a form are tried at first, how many of these are compared, and with how many states; and how many
-# instructions with a mnemonic are changed.
+# How many texts of a form are tried at first, how many of their instructions are compared, and with how many states;
+# and how many changed instructions of a mnemonic are tried.
 TEXTS, COMPARED, STATES, CHANGED = 150, 6, 6, 60
 # Numbers for instructions that have one. The assembler refuses those that an instruction cannot have.
 NUMBERS = [*range(17), 24, 31, 32, 33, 48, 56, 63, 64, 128, 170, 240, 255, 256, 4080, 4095, 4096, 65535, 0xffff0000]
@@ -30,9 +30,9 @@ NUMBERS += [0x5555555555555555, 0xff00ff00ff00ff00, 0xffffffff, 0xfffffffffffffe
 DISTANCES = 0, 1, 2, 3, 4, 5, 8, 12, 16, 24, 31, 32, 64, 256, 496, -1, -3, -8, -16, -32, -64, -255, -256, -512
 SHIFTS = {"mx": ("", ",lsl #1", ",lsl #2", ",lsl #3", ",lsl #4"), "uxtb": ("uxtb", "uxtb #1", "uxtb #2", "uxtb #4")}
 CONDITIONS = "eq ne cs cc mi pl hi ls ge lt gt le".split()
-# What the forms of branches have, or those of instructions for them.
+# What the forms of branches contain, or those of instructions without operands or for branches.
 BRANCH = re.compile(r"\bto\b|-|bti")
-# Why the tool refuses what processors do all the same, or what they are free to do.
+# Reasons for which the tool refuses what processors do, or what each processor may do in its own way.
 REFUSES_MORE = "this is not defined|the stack pointer leaves the frame"
 # The flags of the model, by their bits from the highest one on.
 FLAGS = "szco"
@@ -40,7 +40,7 @@ NAMES = [*[f"x{it}" for it in range(31)], "sp"]
 
 
 def operand(kind, after, chance):
-    """The text of an operand of a kind, where the kind of the next operand is known."""
+    """The text of a random operand of a kind. `after` is the kind of the next operand, or None."""
     place, number = chance.choice((0, 1, 2, 3, 4, 19, 30, 31)), chance.choice(NUMBERS)
     if kind in ("x", "w"):
         return f"{kind}{place if place < 31 else 'zr'}"
@@ -50,7 +50,7 @@ def operand(kind, after, chance):
             return f"[{base},x{chance.randrange(5, 9)}{chance.choice(SHIFTS['mx'])}]"
         distance = chance.choice((0, chance.choice(DISTANCES)))
         if base == "sp":
-            # It stays a multiple of 16, and nothing below it is accessed.
+            # The stack pointer stays a multiple of 16, and nothing below it is accessed.
             distance = abs(distance // 16 * 16) * (-1 if kind == "m!" and distance < 0 else 1)
         return f"[{base}]" if after == "i" or (kind, distance) == ("m", 0) else f"[{base},#{distance}]{kind[1:]}"
     if found := re.fullmatch(r"(\{?)([bhsd])(\}?)\[\]", kind):
@@ -68,7 +68,7 @@ def texts_of(name, form, chance):
     kinds = [] if form == "-" else re.findall(r"\{[^}]*\}(?:\[\])?|[^,]+", form)
     for _ in range(TEXTS if kinds else 1):
         each = [operand(it, after, chance) for it, after in zip(kinds, [*kinds[1:], None])]
-        # The number behind memory is added to the stack pointer too.
+        # The number after memory is added to its base. If this is the stack pointer, it must stay a multiple of 16.
         if kinds[-2:] == ["m", "i"]:
             each[-1] = f"#{chance.choice((-64, -32, 16, 32, 64, 1, 2, 4, 8)[:5 if '[sp]' in each else 9])}"
         yield f"{name} {','.join(each)}"
@@ -77,7 +77,7 @@ def texts_of(name, form, chance):
 def assembled(folder, texts):
     """Assembles those texts that are instructions, and returns their image and their addresses."""
     def assemble(texts):
-        # Before and after an instruction is where a branch goes.
+        # A branch goes two instructions forward or back, to a `brk`.
         lines = [f"brk #0; brk #0; t{at}: {it}; brk #0; brk #0" for at, it in enumerate(texts)]
         (folder / "made.s").write_text("\n".join([*lines, ""]))
         return ran([ARM_CC, "-c", "-march=armv8-a", "-Wa,--no-warn", "-o", folder / "made.o", folder / "made.s"]).stdout
@@ -103,7 +103,7 @@ def some_vector(chance):
     return int.from_bytes(chance.choice((any_byte, small, boundary, few)), "little")
 
 
-# What the registers hold that an instruction does not name.
+# The values of registers that an instruction does not name.
 UNNAMED = Registers([some_number(random.Random(it)) for it in range(31)])
 UNNAMED.v = [some_vector(random.Random(it)) for it in range(32)]
 
@@ -120,7 +120,7 @@ class Compared:
                 self.given.v[it] = some_vector(chance)
             elif re.fullmatch(r"x\d+", it):
                 self.given.x[int(it[1:])] = some_number(chance)
-        # What the stack holds, and where it is accessed. There the model knows it.
+        # What the stack holds, and the part of it that is accessed, of which the model knows the bytes.
         self.memory, self.near = bytearray(SIZE), ()
         for it in self.read.operands:
             if it.kind[0] == "m":
@@ -129,7 +129,7 @@ class Compared:
             self.given.x[30] = BASE + read.at + 8
 
     def points(self, it):
-        """Makes an address of memory one of the stack."""
+        """Sets the registers of a memory operand so that its address is in the stack."""
         base, *index = it.registers
         place = self.given.sp
         if base != "sp":
@@ -142,7 +142,7 @@ class Compared:
         self.memory[first:first + 80] = self.chance.randbytes(80)
 
     def state(self):
-        """The state for the model. Registers that point to the stack or the code do so there too."""
+        """The state for the model. Registers that point to the stack or the code do so in the model too."""
         it = State(self.read.at, PROCESSOR)
         pointers = {"sp", *[each.registers[0] for each in self.read.operands if each.kind[0] == "m"]}
         for name, number in zip(NAMES, [*self.given.x, self.given.sp]):
@@ -167,7 +167,7 @@ class Compared:
         return done, emulator.read(BEGIN - SIZE, SIZE)
 
     def differences(self, emulator):
-        """What is not the same afterwards."""
+        """The names of what differs afterwards between the model and qemu."""
         state, (done, memory) = self.by_model(), self.by_qemu(emulator)
         registers = {name: number(state.registers[name]) for name in NAMES}
         yield from [it for it, there in zip(NAMES, [*done.x, done.sp]) if registers[it] != there]
@@ -175,7 +175,7 @@ class Compared:
                     if bytes(map(number, state.vectors[at])) != there.to_bytes(16, "little")]
         yield from [flag for at, flag in enumerate(FLAGS)
                     if z3.is_true(values.apply(*state.flags[flag]).term) != bool(done.flags >> 31 - at & 1)]
-        # What is not in the model was not stored to, or is below the stack pointer.
+        # A byte that the model does not have was not stored to, or is below the stack pointer and not compared.
         wanted = bytearray(self.memory)
         for at, it in state.stack.items():
             wanted[at + SIZE] = number(it)
@@ -184,13 +184,13 @@ class Compared:
         yield from ["pc"] * (BASE + state.at != done.pc)
 
 
-# Where qemu has what is unknown in the model.
+# The addresses under qemu of what has unknown addresses in the model.
 PLACES = (STACK.term, z3.BitVecVal(BEGIN, 64)), (IMAGE.term, z3.BitVecVal(BASE, 64))
 
 
 @functools.lru_cache(None)
 def number(it):
-    """The number that a value is there."""
+    """The number that a value is with the addresses under qemu."""
     return it.number if it.number is not None else z3.simplify(z3.substitute(it.term, *PLACES)).as_long()
 
 
@@ -199,7 +199,7 @@ def form_of(read):
 
 
 def reads(image, addresses, allowed):
-    """The instructions at these addresses, but for those that the tool refuses to read for an allowed reason."""
+    """The instructions at these addresses, except for those that the tool refuses to read for an allowed reason."""
     for at in addresses:
         try:
             yield image.instruction(at)
@@ -244,8 +244,8 @@ def test_instruction(tmp_path, emulated, name):
 @pytest.mark.apart
 @pytest.mark.parametrize("name", [name for name, forms in FORMS.items() if not BRANCH.search(f"{forms}")])
 def test_changed_instruction(tmp_path, emulated, name):
-    """A bit of an instruction that is no branch is changed. If the tool takes what this is, it does the same as qemu,
-    which ends by a fault if this is no instruction."""
+    """Changes a bit of an instruction that is no branch. If the tool accepts the result, its effect must be the one
+    under qemu, where a code that is no instruction ends by a fault."""
     chance, count = random.Random(f"{SEED} {name} changed"), 0
     image, addresses = assembled(tmp_path, [it for form in sorted(FORMS[name]) for it in texts_of(name, form, chance)])
     words = [int.from_bytes(image.texts[chance.choice(addresses)][0], "little") for _ in range(CHANGED)]
@@ -264,7 +264,7 @@ def test_changed_instruction(tmp_path, emulated, name):
     (OTHERS, "ldurh", "ldurb"), (OTHERS, "st2", "str"),
 ])
 def test_wrong_model(tmp_path, emulated, monkeypatch, table, name, other):
-    """The comparison finds a model that is the one of another instruction."""
+    """The comparison notices that an instruction has the model of another one."""
     monkeypatch.setitem(table, name, table[other])
     with pytest.raises(AssertionError, match="SEED="):
         test_instruction(tmp_path, emulated, name)

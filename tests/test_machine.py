@@ -1,5 +1,5 @@
-"""Symbolic execution of the calls' machine code by machine/. Changed copies of the code must be refused, and what is
-accepted must answer rightly. The effect that machine/ gives to each instruction is compared with the processor."""
+"""Tests of the symbolic execution in machine/. It must refuse changed copies of the code, and what it accepts must
+answer rightly. The effect that it gives to each instruction is compared with the processor."""
 import ctypes
 import itertools
 import mmap
@@ -39,15 +39,15 @@ from machine.x86_64.instructions import CONDITIONS, TABLE
 GENERATED = TOP / "generated"
 PAIRS = [(build, call) for build, (_, calls) in BUILDS.items() for call in calls]
 X86_64 = [it for it in BUILDS if it != "aarch64"]
-# The quick test has sources of at most so many bytes. For digits in groups there are fewer, because each length is
-# executed by itself.
+# The greatest length of a source in the quick tests. It is smaller for digits in groups, because each of their lengths
+# is executed on its own.
 SHORT, SHORT_GROUPED = 8, 2
-# The quickest calls are quickly shown for every length. For the others the record does it.
+# Calls that can be shown for every length in a short time. For the others the record does it.
 EVERY_LENGTH = ("v2", "encode"), ("v3", "encode"), ("v3", "check"), ("aarch64", "encode")
-# The functions of which no call executes some instructions, and how many are left. Each call for C has a jump to the
-# baseline build, which is not checked. In v3_encode an instruction begins a loop of one block, but the loop has more.
-# For aarch64, three jumps are left for a search that finds no invalid byte. Some functions only return texts. Of
-# grouped calls, security.md says what no source of at most 1,024 bytes executes.
+# The functions with instructions that no path executes, and how many these are. Each call for C has a jump to the
+# baseline build, which is not checked. In v3_encode, one instruction is for a source of one block, but each source that
+# comes there has several. For aarch64, three jumps are for a search that finds no invalid byte. Some functions only
+# return texts. machine/README.md says what each of the other instructions is for.
 LEFT = {f"faster_hex_{it}": 1 for it in CALLS if it not in POLICIES}
 LEFT |= {"x86-64-v3_encode": 1, "faster_hex_status_text": 8, "faster_hex_version": 2, "faster_hex_build": 5}
 LEFT["x86-64-vbmi_core_backend_Backend_decode_or_find_outlined"] = 2
@@ -96,8 +96,8 @@ def test_call(request, build, call):
 @pytest.mark.quick
 @pytest.mark.parametrize("build, call", EVERY_LENGTH)
 def test_every_length(request, build, call):
-    """The call is shown. This is not true only because no path is possible: for each of some lengths there is an end
-    where all digits are valid, and one where some are not, if the call tells them apart by branches."""
+    """The call is shown, and not only because no path is possible. For each of some lengths there is an end where all
+    digits are valid, and another one where some are not, if the call tells them apart by branches."""
     those = all_shown(image_for(build, request), build, call, None)
     lengths = [0, 1, 2, 17, 33, 65, 128, 257, 575, 576, 1000, 2**32 + 66, 2**63 - 2]
     lengths.append(random.Random(SEED).randrange(2**62))
@@ -110,7 +110,7 @@ def test_every_length(request, build, call):
 @pytest.mark.quick
 @pytest.mark.parametrize("build", BUILDS)
 def test_ends_of_decode(request, build):
-    """The same for calls that find an invalid digit."""
+    """Checks the same as `test_every_length` for calls that find an invalid digit, for each short length."""
     for it in all_shown(image_for(build, request), build, "decode", SHORT):
         for length in range(SHORT + 1):
             is_refused = length % 2 == 0 and length > 0
@@ -119,7 +119,7 @@ def test_ends_of_decode(request, build):
 
 
 def kinds_of_ends(it, length):
-    """Whether some digit is invalid, of those ends of a call that are possible for a length."""
+    """Whether some digit is invalid, for each end of a call that is possible with a source of this length."""
     return {bool(end.refused) for end in it.ends if is_possible(it.machine.known(end), length)}
 
 
@@ -132,22 +132,22 @@ def is_possible(known, length):
 @pytest.mark.quick
 @pytest.mark.parametrize("call", [it for it in CALLS if it not in BUILDS["v4"][1]])
 def test_call_that_the_widest_build_lacks(image, call):
-    """With AVX-512 it takes the build for x86-64-v3, and both levels are checked."""
+    """On a processor with AVX-512 such a call takes the build for x86-64-v3, and both levels are checked."""
     assert command.levels_of("v3", call)[:2] == [3, 4] and command.levels_of("v2", call) == [2]
     assert all_shown(Image(image, 4), "v3", call, SHORT_GROUPED)
 
 
 @pytest.mark.quick
 def test_another_build(image):
-    """What a call executes must be the build that it is checked for."""
+    """A call must execute the build for which it is checked."""
     with pytest.raises(Refused, match="faster_hex_check does not take the build v3"):
         all_shown(Image(image, 2), "v3", "check", 1)
 
 
 @pytest.mark.quick
 def test_record():
-    """generated/SHOWN was written for these sources, and has each call of each build. No function has instructions that
-    were not executed, but for those in LEFT."""
+    """generated/SHOWN was written for these sources, and has each call of each build. Paths executed all
+    instructions of each function, except for those that LEFT counts."""
     text = (GENERATED / "SHOWN").read_text()
     assert text.startswith(sums())
     lines = text.removeprefix(sums()).splitlines()
@@ -173,7 +173,7 @@ def names_of_functions():
 
 
 def test_record_of_other_sources(copy):
-    """The record builds the library first, so it checks the code whose hashes it has."""
+    """The record builds the library first, so it checks the code whose hashes it names."""
     with (copy / "generated/x86-64-v3.s").open("a") as file:
         file.write("\n")
     before = (copy / "generated/SHOWN").read_text()
@@ -188,8 +188,8 @@ def files_in(folder):
 
 @pytest.mark.parametrize("is_shown", [True, False])
 def test_what_the_record_writes(copy, tmp_path, monkeypatch, is_shown):
-    """It writes generated/SHOWN and nothing else, so what is in out/ stays. If a call is not shown, it writes nothing.
-    What it says of calls has its own tests."""
+    """The record writes generated/SHOWN and nothing else, so what is in out/ stays. If a call is not shown, it writes
+    nothing. Other tests check what is said of the calls."""
     made = tmp_path / "made"
     made.mkdir(), (copy / "out").mkdir()
     (copy / "out/libfaster_hex.a").write_text("of somebody else")
@@ -245,7 +245,7 @@ def test_nothing_to_check(tmp_path, library):
 
 @pytest.mark.quick
 def test_wrong_words(library):
-    """Words that the command does not have get a line that says so, and a status that says nothing of a call."""
+    """Words that the command does not know get a line that says so, and a status that says nothing of a call."""
     archive = library / "libfaster_hex.a"
     lines = {
         (archive, "v3", "decode", "x"): "x is no length", (archive, "v3", "decode", "-3"): "-3 is no length",
@@ -262,7 +262,7 @@ def test_wrong_words(library):
 
 
 def test_archive_for_another_processor(arm, tmp_path):
-    """A build for another processor than that of the file, and a file for RISC-V by its header."""
+    """Neither a build for another processor than the file's nor a file for RISC-V (by its header) can be checked."""
     data = bytearray((arm / "fhex").read_bytes())
     data[18] = 243
     (tmp_path / "program").write_bytes(data)
@@ -271,14 +271,14 @@ def test_archive_for_another_processor(arm, tmp_path):
         assert done.returncode == 2 and done.stdout.count("\n") == 1 and why in done.stdout, done.stdout
 
 
-# A line of a module, and one of the same length in its place.
+# A piece of a module's text, and another one of the same length to put in its place.
 STALE = {"__init__": ("To read it, begin", "To begin, read it"), "__main__": ("import argparse", "print('stale!')"),
          "values": ("import functools", "print('stale!') ")}
 
 
 @pytest.mark.parametrize("module", STALE)
 def test_stale_copy(copy, library, module):
-    """A compiled copy of another text, with the size and the time of the file, does not run."""
+    """A compiled copy does not run if it was made from another text with the size and the time of the file."""
     file = copy / f"tests/machine/{module}.py"
     text = file.read_text()
     file.write_text(text.replace(*STALE[module]))
@@ -312,7 +312,7 @@ def program_in_c(tmp_path, fixture):
 
 
 def program_in_rust(tmp_path, fixture):
-    """rustc assembles the builds by itself."""
+    """A program whose builds rustc assembles itself."""
     (tmp_path / "src").mkdir()
     (tmp_path / "src/main.rs").write_text((TOP / "examples/rust/src/main.rs").read_text())
     package = f'[package]\nname = "over"\nedition = "2021"\n[dependencies]\nfaster-hex = {{ path = "{TOP}" }}\n'
@@ -332,7 +332,7 @@ def program_for_arm(tmp_path, fixture):
     return compiled(ARM_CC, tmp_path / "program", "-static", TOP / "examples/c/digits.c", library)
 
 
-# How a file with the library is made, and some of its calls with the most bytes of a source.
+# How a file with the library is made, and calls to check in it, each with the greatest length of a source.
 MADE = {
     by_make: ["v2 encode 8", "v3 check_with_case 8", "v4 decode_with_case 8", "vbmi check 8", "v3 decode_grouped 2"],
     made_by_cmake: ["v2 decode 8", "v3 first_invalid 8", "v4 check 8", "vbmi decode_with_case 8"],
@@ -345,7 +345,7 @@ MADE = {
 
 @pytest.mark.parametrize("making", MADE)
 def test_anybodys_file(tmp_path, request, making):
-    """Whoever made a file, the command says what is shown of it."""
+    """The command says what is shown of a file, by whichever compiler or build system the file was made."""
     needs("ld", "objdump")
     file = making(tmp_path, request.getfixturevalue)
     for words in MADE[making]:
@@ -356,7 +356,7 @@ def test_anybodys_file(tmp_path, request, making):
 
 
 def test_wrong_archive(tmp_path):
-    """The status 1 says that a call was not shown, and a line says why."""
+    """If a call is not shown, the status is 1, and a line says why."""
     assembled(tmp_path, changed("v3", "check", ["0 setb %al => movb $1,%al"]))
     runs(["ar", "rcs", tmp_path / "wrong.a", tmp_path / "made.o"])
     done = checks(tmp_path / "wrong.a", "v3", "check", "8")
@@ -364,7 +364,7 @@ def test_wrong_archive(tmp_path):
     assert checks(tmp_path / "wrong.a", "v3", "encode", "8").returncode == 0
 
 
-# What wrong copies of dispatch.c do in a place, with the text that is there.
+# A place of dispatch.c and a wrong text for it, and rules for wrong copies of assembly.
 CHOOSES = "        bool is_3 = "
 WRONG_AT_LEVEL_4 = CHOOSES, f"        if (widest == 3 && known == 4) return (answer){{ 0 }}; {CHOOSES}"
 BY_LOADER = """1 endbr64 => \\0; movq 70f(%rip),%rax; testq %rax,%rax; je 71f; movl $1,%eax; retq;
@@ -374,8 +374,8 @@ BY_PLACE = """1 endbr64 => \\0; leaq 70f(%rip),%rax; shrq $30,%rax; je 71f; movl
 
 
 def linked_with(*words, folder, dispatch=None, build=None, name="made.so", rule=None):
-    """Links dispatch.c, or a text in its place, and the builds, of which one may be changed. Without words this is a
-    shared library."""
+    """Links dispatch.c, or a text in place of it, and the builds, of which one may be changed. Without words the result
+    is a shared library."""
     shutil.copytree(GENERATED, folder / "generated")
     (folder / "crates").symlink_to(TOP / "crates")
     if build:
@@ -393,7 +393,7 @@ def of_a_program(*words, folder, **changes):
 
 
 def by_another_file(folder):
-    """dispatch.c is included by another file."""
+    """A library whose dispatch.c is included by another file, so that no symbol names the file dispatch.c."""
     (folder / "all.c").write_text(f'#include "{CRATE}/dispatch.c"\n')
     return compiled(CC, folder / "made.so", "-shared", "-fPIC", "-O2", folder / "all.c", GENERATED / "builds.S")
 
@@ -415,14 +415,14 @@ def without_build(folder):
 
 
 def indirect(folder):
-    """A call is found by a function that is called when the file is loaded."""
+    """A library with a call that the loader finds by a function, which it runs when it loads the library."""
     text = ran([CC, "-S", "-O2", "-fPIC", f"-I{CRATE}", "-o", "-", CRATE / "dispatch.c"]).stdout
     (folder / "dispatch.S").write_text(re.sub("(type\tfaster_hex_check, ).*", r"\1@gnu_indirect_function", text))
     return compiled(CC, folder / "made.so", "-shared", folder / "dispatch.S", GENERATED / "builds.S")
 
 
 def with_other_headers(folder):
-    """The header of a section names another place of the file than the one that is loaded."""
+    """A library in which the header of a section names another place of the file than the one that is loaded."""
     file = linked_with(folder=folder)
     found = re.search(r"\[ *(\d+)\] \.rodata +\w+ +\w+ (\w+) (\w+)", ran(["readelf", "-SW", file]).stdout)
     number, begin, size = int(found[1]), int(found[2], 16), int(found[3], 16)
@@ -440,7 +440,7 @@ def at_level_4(folder):
 
 
 def archive_with(folder, text, *words, compiler=CC):
-    """An archive of the builds and a text in the place of dispatch.c."""
+    """An archive of the builds and of a text in place of dispatch.c."""
     (folder / "dispatch.c").write_text(text)
     runs([compiler, "-c", *(words or ["-O2"]), f"-I{CRATE}", "-o", folder / "dispatch.o", folder / "dispatch.c"])
     runs([compiler if compiler == ARM_CC else CC, "-c", "-o", folder / "builds.o", GENERATED / "builds.S"])
@@ -449,7 +449,7 @@ def archive_with(folder, text, *words, compiler=CC):
 
 
 DISPATCH = (CRATE / "dispatch.c").read_text()
-# How a file is made that must be refused, the pair that is wrong there, and what is said of it.
+# How each file that must be refused is made, the build and call that are wrong in it, and what is said of them.
 WRONG = {
     by_another_file: ("v3 check", "not the variable"), by_link_time_optimization: ("v3 check", "but not"),
     without_symbol: ("v2 encode", "but not faster_hex_encode"),
@@ -464,14 +464,14 @@ WRONG |= {partial(making, *words, build="v3", rule=BY_PLACE): ("v3 check", "v3 c
 
 @pytest.mark.parametrize("making", WRONG)
 def test_wrong_file(tmp_path, making):
-    """A file in which something is wrong is refused, by all pairs and by the one that is concerned."""
+    """A wrong file is refused when its wrong call is checked, and the reason is printed."""
     needs("ld", "objdump")
     pair, why = WRONG[making]
     done = checks(making(folder=tmp_path), *pair.split(), "2")
     assert done.returncode == 1 and why in done.stdout, done.stdout
 
 
-# Options with which dispatch.c is compiled, and what is said if a call is refused.
+# The options with which dispatch.c is compiled, each with what is said if a call is refused, or None.
 LEVELS_OF_OPTIMIZATION = "-O0", "-O1", "-O2", "-O3", "-Os", "-Oz", "-Og"
 OPTIONS = {it: None for each in LEVELS_OF_OPTIMIZATION for it in (each, f"{each} -fno-optimize-sibling-calls")}
 OPTIONS |= {"-O0 -fPIC": None, "-O2 -fno-omit-frame-pointer": None, "-O2 -mno-red-zone": None, "-O1 -fno-inline": None}
@@ -483,7 +483,7 @@ OPTIONS_FOR_ARM = [it for it in OPTIONS if "red-zone" not in it] + ["-O2 -mbranc
 @pytest.mark.parametrize("options", OPTIONS)
 @pytest.mark.parametrize("compiler", ["gcc", "clang"])
 def test_compiled_dispatch(tmp_path, compiler, options):
-    """What other compilers make of dispatch.c is shown too, or is refused because it calls another function."""
+    """Code that other compilers make of dispatch.c is shown too, or is refused because it calls another function."""
     needs("ld", "objdump", compiler)
     made = linked(tmp_path / "image", archive_with(tmp_path, DISPATCH, *options.split(), compiler=compiler))
     for pair in "v2 encode_grouped", "v3 encode", "v3 first_invalid", "v4 decode_with_case", "vbmi check":
@@ -494,7 +494,8 @@ def test_compiled_dispatch(tmp_path, compiler, options):
 @pytest.mark.apart
 @pytest.mark.parametrize("options", OPTIONS_FOR_ARM)
 def test_compiled_dispatch_for_arm(tmp_path, options):
-    """The same for aarch64, where such a call is refused as soon as it asks for the protector or its own address."""
+    """Checks the same for aarch64. There such a call is refused as soon as it asks for the stack protector or for
+    its own address."""
     needs(ARM_CC, "aarch64-linux-gnu-ld", "aarch64-linux-gnu-objdump")
     made = linked(tmp_path / "image", archive_with(tmp_path, DISPATCH, *options.split(), compiler=ARM_CC))
     for call in "decode_grouped", "encode", "first_invalid":
@@ -503,7 +504,7 @@ def test_compiled_dispatch_for_arm(tmp_path, options):
 
 
 def assembled(folder, text, level=None, compiler=CC):
-    """Assembles a text, and returns the image of this object alone."""
+    """Assembles a text, and returns the linked image of only this object."""
     (folder / "made.S").write_text(text)
     runs([compiler, "-c", f"-I{GENERATED}", "-o", folder / "made.o", folder / "made.S"])
     return Image(linked(folder / "image", folder / "made.o"), level)
@@ -520,7 +521,7 @@ def test_change(tmp_path, row):
         all_shown(image, it.build, it.call, max(it.lengths, default=None), *it.least)
 
 
-# Copies of a loop that are right too: how its counter begins, how it changes in a turn, and the jump to the next turn.
+# Copies of a loop that are right too: how the counter begins, how a turn changes it, and the jump to the next turn.
 RIGHT = [("leaq -1(%r9),%r9", "subq $1,%r9", "jns"), ("shlq $5,%r9", "subq $32,%r9; cmpq $31,%r9", "ja"),
          ("shlq $5,%r9", "subq $32,%r9; cmpq $32,%r9", "jae"), ("negq %r9", "incq %r9", "js")]
 
@@ -528,18 +529,18 @@ RIGHT = [("leaq -1(%r9),%r9", "subq $1,%r9", "jns"), ("shlq $5,%r9", "subq $32,%
 @pytest.mark.apart
 @pytest.mark.parametrize("begin, change, jump", RIGHT)
 def test_right_change(tmp_path, begin, change, jump):
-    """A loop may end in other ways than those of the shipped code."""
+    """A loop may count and end in other ways than the shipped code does."""
     rules = fr"1 shrq \$9,%r9 => \0; {begin}", f"1 decq %r9 => {change}", f"1 jne 3b => {jump} 3b"
     image = assembled(tmp_path, changed("v3", "core_plain_check_long_outlined", rules), BUILDS["v3"][0])
     assert all_shown(image, "v3", "check", None, 513)
 
 
-# All indices but the last one.
+# A span of all indices but the last one.
 ALL = ((z3.BitVecVal(0, 64), z3.BitVecVal(2**64 - 1, 64)),)
 
 
 def other_state(state, register=None, **parts):
-    """A state that says something else: of a register, by a function of its value, or in other parts."""
+    """A copy of a state that differs in one register, whose value goes through a function, or in other fields."""
     it = state.copy()
     vars(it).update(parts)
     if register:
@@ -549,7 +550,7 @@ def other_state(state, register=None, **parts):
 
 
 def wrong_claims(loop):
-    """Records of a loop that are wrong in one place, each with what is said of it."""
+    """Records of a loop that are wrong in one place, each with what the replay says of it."""
     name = next(it for it in loop.moving if it in loop.state.registers)
     one_more, too_far = (name, lambda it: values.plus(it, 1)), (name, lambda it: values.Value(it.term + loop.turn))
     yield "another one", {"before": other_state(loop.before, one_more)}
@@ -570,7 +571,7 @@ def wrong_claims(loop):
 @pytest.mark.quick
 @pytest.mark.parametrize("call", ["encode", "check"])
 def test_wrong_claim(image, call):
-    """The second check of a loop refuses each wrong record, and takes the right one again, which it does not change."""
+    """The replay of a loop refuses each wrong record. It accepts the right one afterwards, and does not change it."""
     machine = next(shown(Image(image, 3), "v3", call, None, 513)).machine
     for loop in machine.loops:
         exits = [*loop.exits]
@@ -581,24 +582,24 @@ def test_wrong_claim(image, call):
         assert exits and loop.exits == exits
 
 
-# Loops whose bytes are changed at random: the build, the call, and the function that they are in.
+# Loops in which bytes are changed at random: the build, the call, and the function with the loop.
 CHECKS = {"v3": "core_plain_check_long_outlined"} | dict.fromkeys(("v4", "vbmi"), "core_plain_check_wide_outlined")
 LOOPS = [("v2", "encode", "encode"), ("v3", "encode", "encode"), *[(it, "check", at) for it, at in CHECKS.items()]]
 LOOPS += [(it, "decode", "core_backend_Backend_decode_or_find_outlined") for it in X86_64]
-# What processors have that run a build.
+# For each build, a flag in /proc/cpuinfo of the processors that run it.
 FLAG = {"v2": "sse4_2", "v3": "avx2", "v4": "avx512bw", "vbmi": "avx512vbmi"}
 PAGE, FILL = 4096, 0xaa
 
 
 def has(*flags):
-    """Skips a test if the processor has no such instructions."""
+    """Skips a test if the processor lacks one of these flags."""
     for it in flags:
         if not re.search(rf"\b{it}\b", Path("/proc/cpuinfo").read_text()):
             pytest.skip(f"the processor has no {it}")
 
 
 def in_loops(image, build, function):
-    """The addresses of what is in the loops of a function: all that a conditional jump back goes over."""
+    """The addresses in the loops of a function: all that a conditional jump back goes over."""
     begin, size = next((at, it[1]) for at, it in image.functions.items() if it[0].endswith(f"_{build}_{function}"))
     texts = {at: image.texts[at][1] for at in range(begin, begin + size) if at in image.texts}
     jumps = {at: re.match(r"j(?:ne|b|a|ae) +(\w+)", text) for at, text in texts.items()}
@@ -610,7 +611,7 @@ class Answer(ctypes.Structure):
 
 
 class Guarded:
-    """Some bytes in memory. They end where a page begins that cannot be accessed. The page before them is filled."""
+    """Some bytes in memory. They end where a page begins that cannot be accessed. The memory before them is filled."""
 
     def __init__(self, given):
         self.end = PAGE + -(-len(given) // PAGE) * PAGE
@@ -625,7 +626,7 @@ class Guarded:
 
 
 def source_for(call, chance, length):
-    """A random source, and the index of its first invalid digit, or None. Half of the sources with digits have one."""
+    """A random source, and the index of its first invalid digit, or None. Most sources of digits have one."""
     if call == "encode":
         return chance.randbytes(length), None
     source = bytearray(chance.choice(b"0123456789abcdefABCDEF") for _ in range(length))
@@ -650,8 +651,8 @@ def answers_rightly(call, function, chance, length):
 
 
 def tries(file, at, call, seed):
-    """Ends this process with the status 0 if the call at an address of a shared library answers rightly. It is called
-    for random lengths, of which many are long."""
+    """Ends this process, with the status 0 if the call at an address of a shared library answers rightly. The call is
+    tried with random lengths, many of them long."""
     ctypes.CDLL(str(file))
     base = min(int(it.split("-")[0], 16) for it in Path("/proc/self/maps").read_text().splitlines() if str(file) in it)
     result = ctypes.c_bool if call == "check" else Answer
@@ -663,7 +664,7 @@ def tries(file, at, call, seed):
 
 
 def answers(file, at, call, seed):
-    """Whether a call answers rightly, and ends."""
+    """Whether a call answers rightly and ends within a minute."""
     process = multiprocessing.get_context("fork").Process(target=tries, args=(file, at, call, seed))
     process.start()
     process.join(60)
@@ -681,7 +682,7 @@ def shared_of(folder, text):
 
 @pytest.mark.parametrize("build, call, function", LOOPS)
 def test_answers(tmp_path, build, call, function):
-    """What judges the changed copies below tells right code from wrong one."""
+    """The function that judges the randomly changed copies below tells right code from wrong code."""
     has(FLAG[build])
     for text, is_right in (changed(build, function), True), (changed(build, function, ["0 j(ne|b) .*b => nop"]), False):
         file = shared_of(tmp_path, text)
@@ -692,7 +693,7 @@ def test_answers(tmp_path, build, call, function):
 @pytest.mark.apart
 @pytest.mark.parametrize("turn", range(int(os.environ.get("ROUNDS") or 20_000) // 5_000))
 def test_random_change(tmp_path, turn):
-    """A byte in a loop is changed at random. If the copy is accepted all the same, it must answer rightly."""
+    """Changes a byte in a loop at random. If the changed copy is accepted all the same, it must answer rightly."""
     chance, told = random.Random(f"{SEED} {turn}"), f"SEED={SEED}"
     build, call, function = chance.choice(LOOPS)
     has(FLAG[build])
@@ -710,8 +711,8 @@ def test_random_change(tmp_path, turn):
     assert is_right, f"{told}: {build} {call} was accepted with {data[at]:#x} at {at:#x}"
 
 
-# Codes that must be refused, because no processor has them or the model does not. Many are changes of 62f16d48fcc1,
-# which is vpaddb %zmm1,%zmm2,%zmm0, or of a similar instruction.
+# Codes that must be refused, because no processor has them or they have no model. Many are changes of 62f16d48fcc1,
+# which is vpaddb %zmm1,%zmm2,%zmm0, or of the code of a similar instruction.
 NO_INSTRUCTIONS = {
     "62f16d49fcc1": "a mask", "62f16dc8fcc1": "zeros without a mask", "62f16d68fcc1": "vectors of 128 bytes",
     "62f16d58fcc1": "a rounding", "62e16d48fcc1": "zmm16", "62f16d40fcc1": "zmm18", "62b16d48fcc1": "zmm17",
@@ -724,7 +725,7 @@ NO_INSTRUCTIONS = {
 
 
 def executes(image, at):
-    """Executes an instruction and reads it once more, as the record does."""
+    """Executes an instruction, and lets `as` assemble its text again, as the record does."""
     execution.Machine(image, values.constant(0, 8), None, None, (), None).advances(State(at, PROCESSOR))
     assembles([image.instruction(at)])
 
@@ -737,19 +738,28 @@ def test_no_instruction(tmp_path, given):
 
 
 def test_an_instruction(tmp_path):
-    """The codes above are not refused for what they are changes of."""
+    """Instructions like those that the codes above are changes of are not refused."""
     made = assembled(tmp_path, "at: vpaddb %zmm1,%zmm2,%zmm0; to: pminub %xmm1,%xmm0")
     executes(made, *made.symbols["at"]), executes(made, *made.symbols["to"])
 
 
-# A block has registers, flags and memory. A program loads it, runs some instructions, and stores it again.
+def test_an_instruction_that_the_loader_changes(tmp_path):
+    """An instruction is refused if a relocation writes over its last byte."""
+    made = assembled(tmp_path, "at: pminub %xmm1,%xmm0")
+    at, = made.symbols["at"]
+    made.relocated[at + 3] = 0
+    with pytest.raises(Refused):
+        executes(made, at)
+
+
+# A block has registers, flags and memory. A program loads a block, runs some instructions, and stores the block again.
 BLOCK = {"vector 0": 32, "vector 1": 32, "vector 2": 32, "rax": 8, "rcx": 8, "rdx": 8, "flags": 8, "memory": 64}
 # For AVX-512 the block also has the upper half of each vector, which is loaded and stored by these instructions.
 BLOCK |= {f"above {it}": 32 for it in range(3)}
 LOADS = "; ".join(f"vinserti64x4 $1,{192 + 32 * it}(%r11),%zmm{it},%zmm{it}" for it in range(3))
 STORES = "; ".join(f"vextracti64x4 $1,%zmm{it},{192 + 32 * it}(%r11)" for it in range(3))
 NAMES = [f"{it} {at}" for it, size in BLOCK.items() for at in range(size)]
-# In the model the memory is a part of the stack, below what a program pushes. It is 8 bytes below an aligned address.
+# In the model, the memory is a part of the stack below what a program pushes. It is 8 bytes above an aligned address.
 MEMORY = range(-128, -64)
 FLAGS = {"c": 0, "z": 6, "s": 7, "o": 11}
 HAS_FLAG = {flag: (lambda it, bit=bit: z3.Extract(bit, bit, it) == 1) for flag, bit in FLAGS.items()}
@@ -765,12 +775,12 @@ end_{0}: .att_syntax prefix
     vmovdqu %ymm0,(%r11); vmovdqu %ymm1,32(%r11); vmovdqu %ymm2,64(%r11); {3}; vzeroupper
     ret
 """
-# The flags of a processor that has the instructions of a level.
+# The flags in /proc/cpuinfo of a processor that has the instructions of a level.
 OF_LEVEL = {2: ["avx2"], 3: ["avx2", "bmi2"], 4: ["avx512f", "avx512bw", "avx512dq", "avx512vl"], 5: ["avx512vbmi"]}
 REGISTERS = {1: "cl dl al", 2: "cx dx ax", 4: "ecx edx eax", 8: "rcx rdx rax"}
 SIZES = {1: "byte", 2: "word", 4: "dword", 8: "qword", 16: "xmmword", 32: "ymmword", 64: "zmmword"}
-# What comes before and after an instruction, so that it has an effect that can be compared, or instead of it. {0} is a
-# number.
+# What comes before and after an instruction, so that its effect can be compared, or what stands in place of the
+# instruction. {0} is a number, and {1} the instruction.
 AROUND = {
     "div": "mov eax,{0}0007; xor edx,edx; mov ecx,77; mov qword ptr [rdi+7],77; {1}",
     "leave": "push rbp; mov rbp,rsp; push rcx; {1}",
@@ -781,7 +791,7 @@ AROUND = {
     "kortestw": "vptestmd k0,zmm0,zmm0; vptestmd k1,zmm1,zmm2; {1}",
     "vzeroupper": "vmovdqu ymm0,ymmword ptr [rdi]; {1}",
 }
-# Numbers for instructions that have one.
+# The numbers with which instructions that have a number are tried.
 GIVEN = 5, 179, 63, 1
 
 
@@ -806,8 +816,8 @@ def operand_of(name, kind, place, number):
 
 
 def programs_of(name, form):
-    """The programs for a form of an instruction. If a vector may have 64 bytes there, it has the encoding of AVX-512
-    too."""
+    """The programs for a form of an instruction. If the instruction also has a form with vectors of 64 bytes, the
+    programs use its encoding of AVX-512 too."""
     kinds = [it for it in form.split(",") if it]
     wide = re.sub("m16|m32", "m64", re.sub("[xy]", "z", form))
     for number, prefix in itertools.product(GIVEN, ["", "{evex} "] if wide != form and wide in FORMS[name] else [""]):
@@ -820,8 +830,8 @@ def programs_of(name, form):
 
 
 def modelled(image, begin, end, is_wide, known):
-    """Runs a program in the model, and returns the bytes of the block and the flags. The bytes of the block before may
-    be known or unknown. The upper halves of vectors come after the memory."""
+    """Runs a program in the model, and returns the bytes of the block and the flags. The bytes of the block at the
+    beginning are those of `known`, or unknown. The upper halves of vectors come after the memory."""
     block = {it: values.bytes_of(values.unknown(it, size)) for it, size in BLOCK.items()}
     if known:
         block = {it: [values.constant(known[f"{it} {at}"], 1) for at in range(size)] for it, size in BLOCK.items()}
@@ -841,7 +851,7 @@ def modelled(image, begin, end, is_wide, known):
 
 
 def told(it, known):
-    """The number or truth value of a Value for known bytes. Most values are one of the bytes itself."""
+    """The number or truth value of a Value for known bytes. Most values are one of these bytes themselves."""
     if it.term.eq(values.X[0]):
         return known[it.of[0]]
     each = [(values.X[at], z3.BitVecVal(known[name], 8)) for at, name in enumerate(it.of)]
@@ -867,8 +877,8 @@ def dense_blocks():
 
 
 def sparse_blocks(parts):
-    """Blocks for instructions that ask whether bytes are zero or equal. All bytes are zero, except two anywhere and one
-    in all vectors at the same place, or in one vector only. Each place has its turns."""
+    """Blocks for instructions that ask whether bytes are zero or equal. All bytes of a block are zero, except for two
+    anywhere, and one at the same place of all vectors or in only one vector. Each place is used."""
     for part, place in itertools.product(parts, range(32)):
         for vectors in range(3), [random.randrange(3)]:
             block, byte = bytearray(len(NAMES)), any_byte() or 1
@@ -880,7 +890,7 @@ def sparse_blocks(parts):
 
 
 def ran_on(function, block):
-    """What a program makes of a block, which is put 8 bytes above an aligned address."""
+    """What a program makes of a block, which begins 8 bytes above an aligned address."""
     room = ctypes.create_string_buffer(len(block) + 24)
     at = -ctypes.addressof(room) % 16 + 8
     room[at:at + len(block)] = bytes(block)
@@ -903,7 +913,7 @@ def test_instruction(tmp_path, name):
     random.seed(name)
     for at, program in enumerate(programs):
         places = *image.symbols[f"begin_{at}"], *image.symbols[f"end_{at}"], is_wide
-        # A program with jumps, or whose effect needs a number, is executed again for each block.
+        # A program with jumps, or whose effect depends on a known number, is executed again for each block.
         made = None if re.search(r"\bj|call|set", program) else modelled(image, *places, {})
         is_test = re.search("test", name) and made
         for block in [*dense_blocks(), *(sparse_blocks(["vector", "above"][:1 + is_wide]) if is_test else ())]:

@@ -1,4 +1,4 @@
-"""Checks the library's calls in machine code. Run it in tests/ by the system's Python: `python3 -m machine --help`."""
+"""Checks the library's calls in machine code. Run it in tests/ with the system's Python: `-m machine --help`."""
 import argparse
 import concurrent.futures
 import hashlib
@@ -11,7 +11,7 @@ import time
 from functools import partial
 from pathlib import Path
 
-# When this tool began, before its other files were read.
+# The time at which this tool started, before Python read its other files.
 BEGAN = time.time_ns()
 
 import capstone
@@ -26,13 +26,14 @@ from .values import forget
 
 TOP = Path(__file__).resolve().parents[2]
 KEPT = []
-# The builds for AVX-512 have the calls that check and decode.
+# The builds for AVX-512 only have the calls that check and decode, without those for groups.
 WIDEST = [it for it in CALLS if it.startswith(("check", "decode")) and it not in GROUPED]
-# Each build with its level, which is that of the processors that run it, and the calls that it has.
+# Each build with its calls and its level, which is the lowest level of a processor that runs it. Levels 2 to 4 are
+# those of x86-64, and level 5 is level 4 with AVX-512 VBMI.
 BUILDS_OF = {x86_64.PROCESSOR: {"v2": (2, CALLS), "v3": (3, CALLS), "v4": (4, WIDEST), "vbmi": (5, WIDEST)},
              aarch64.PROCESSOR: {"aarch64": (1, CALLS)}}
 BUILDS = {build: it for those in BUILDS_OF.values() for build, it in those.items()}
-# The sources of the machine code, and of this tool, because a change of the tool needs a new record.
+# The sources of the machine code and of this tool. The tool counts too, because a changed tool needs a new record.
 SOURCES = [f"generated/{name_of(it)}.s" for it in BUILDS] + """generated/builds.S generated/elf.inc
     crates/faster_hex_c/dispatch.c crates/faster_hex_c/assembly.h crates/faster_hex_c/faster_hex.h""".split()
 SOURCES += sorted(f"{it.relative_to(TOP)}" for it in Path(__file__).resolve().parent.rglob("*.py"))
@@ -44,7 +45,7 @@ def sums():
 
 
 def tools(file, made):
-    """The hash of a file, the compilers that it names, and the versions of what checks it."""
+    """The hash of a file, the compilers that it names, and the versions of the programs that check it."""
     compilers = re.findall(r"^ +\[ *\w+\] +(.*)$", code.output("readelf", "-p", ".comment", made), re.M)
     names = (processor_of(made).tools + it for it in ("ld", "objdump"))
     linker, disassembler = (code.output(it, "--version").splitlines()[0] for it in names)
@@ -64,16 +65,16 @@ def branches(those):
 
 
 def levels_of(build, call):
-    """The levels of the processors that run a build's call: its own, and those whose builds lack the call."""
+    """The levels of the processors that run a build's call: its own, and those above whose builds lack the call."""
     own, those = next((it[build][0], it.values()) for it in BUILDS_OF.values() if build in it)
     having = [level for level, calls in those if call in calls]
     return [level for level, _ in those if max([0, *[it for it in having if it <= level]]) == own]
 
 
 def checked(made, build, call, most):
-    """What is said of a call, whether it is shown, and the addresses that were executed."""
+    """What is said of a call, whether the call was shown to be right, and the addresses that were executed."""
     executed = set()
-    # Calls of a build have much in common, so what Z3 answered is kept for the next one, but not for grouped calls.
+    # The calls of a build have much in common, so Z3's answers are kept for the next one. A grouped call starts anew.
     if KEPT != [build] or call in GROUPED:
         forget()
         KEPT[:] = [build]
@@ -95,7 +96,7 @@ def checked(made, build, call, most):
 
 
 def functions(made, executed):
-    """How many instructions of each function some path executed."""
+    """Yields a line for each function: how many of its instructions some path executed."""
     image, builds = Image(made), "|".join(map(name_of, BUILDS)).replace("-", "_")
     image.processor.confirms([image.instruction(at) for at in sorted(executed)])
     for at, (name, size) in sorted(image.functions.items(), key=lambda it: it[1]):
@@ -108,7 +109,8 @@ def functions(made, executed):
 
 
 def report(made, most, pairs, jobs=None):
-    """Says what is shown of calls, each in a process, and whether all is. What is said of one is printed at once."""
+    """Checks calls in several processes, and prints what is said of each call as soon as it is known. Returns all that
+    was said, the lines on functions, and whether every call was shown to be right."""
     with concurrent.futures.ProcessPoolExecutor(jobs) as pool:
         waiting = [pool.submit(checked, made, *it, most) for it in pairs]
         for it in concurrent.futures.as_completed(waiting):
@@ -119,7 +121,7 @@ def report(made, most, pairs, jobs=None):
 
 
 def pairs_of(made, words):
-    """The builds and calls to check in a file, of those that are asked for."""
+    """The builds and calls to check in a file: all for its processor, or those that the words select."""
     names = [it for it in Image(made).symbols if re.match(r"faster_hex_\w+_(x86_64_v|aarch64_)", it)]
     builds = BUILDS_OF[processor_of(made)]
     version = re.search(r'VERSION "(.*)"', (TOP / "crates/faster_hex_c/faster_hex.h").read_text())[1].replace(".", "_")
@@ -133,7 +135,7 @@ def pairs_of(made, words):
 
 
 def image_of(folder, file):
-    """The linked file: this one, or what `ld` makes of an archive or an object."""
+    """The linked file to check: the given file, or what `ld` makes of an archive or an object."""
     file.read_bytes()
     if not processor_of(file):
         raise ValueError("it is neither for x86-64 nor for aarch64")
@@ -151,7 +153,7 @@ def check(folder, given):
 
 
 def record(folder, began=BEGAN, jobs=None):
-    """Writes the record, if all is shown. If a source was changed after the tool began, it counts for nothing."""
+    """Writes the record, if every call is shown to be right and no source was changed after the tool started."""
     text = sums()
     for target in (it.target for it in BUILDS_OF):
         out = Path(folder) / f"lib{target}"

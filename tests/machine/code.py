@@ -1,4 +1,4 @@
-"""Instructions, as two programs read them, and the commands that read a file. The folders of the processors say how."""
+"""What an instruction is, and how the output of a command is read. The folders of the processors read instructions."""
 import subprocess
 from dataclasses import dataclass
 

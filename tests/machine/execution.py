@@ -1,9 +1,10 @@
 """Symbolic execution of a call: every path is followed, for a source whose length and bytes are unknown.
 
 A path may access the source, the part of the destination that the call writes, the stack frame, and constants. Any
-other access is refused. A branch may depend on the bytes only if its condition says whether some bytes of the source
-are all valid digits, which Z3 decides. An address may depend on a byte only after some byte is known to be no digit.
-loops.py says why the paths that are followed stand for all."""
+other access is refused. A branch may depend on bytes of the source only if its condition is equivalent to the statement
+that some of them are all valid digits, or to its negation, which Z3 decides. An address may depend on a byte only to
+look it up in a table of constants, and only after some byte is known to be no digit, or in a grouped call. loops.py
+explains why the paths that are followed stand for all executions."""
 import functools
 import re
 
@@ -15,12 +16,13 @@ from .state import BASES, DESTINATION, INDEX, RETURN, SEPARATOR, SOURCE, STACK, 
 from .values import MADE, X, Value, apply, is_proved, numbered, plus, unknown
 
 FRAME, NO_KIND = 4096, -1
-# How many instructions a path may have, and the tried turns of a loop. Otherwise a wrong loop might have no end.
+# The most instructions on a path, and in the tried turns of a loop, since a wrong loop may never end; and the most
+# turns that a short loop has after its first one.
 MOST_STEPS, FEW_TURNS = 20000, 8
 
 
 def parts(term):
-    """Terms that are all 0 exactly if a term is."""
+    """Yields terms that are all 0 exactly if the given term is 0."""
     if z3.is_app_of(term, z3.Z3_OP_BOR) or z3.is_app_of(term, z3.Z3_OP_CONCAT):
         for it in term.children():
             yield from parts(it)
@@ -29,7 +31,8 @@ def parts(term):
 
 
 def without_number(term):
-    """A term and a number whose sum is this term: a number that is added to others, and what the lowest bits are."""
+    """Splits a term into a rest and a number whose sum is the term. The number has the constants that are added, and
+    the constant that the lowest bits are."""
     numbers = [it for it in term.children() if z3.is_bv_value(it)] if z3.is_app_of(term, z3.Z3_OP_BADD) else []
     number = term.as_signed_long() if z3.is_bv_value(term) else sum(it.as_signed_long() for it in numbers)
     rest = z3.simplify(term - number)
@@ -40,6 +43,7 @@ def without_number(term):
 
 
 def conjuncts(term, is_negated=False):
+    """The conjuncts of a condition, or of its negation. `term == 0` has one for each part of the term."""
     if z3.is_not(term):
         yield from conjuncts(term.arg(0), not is_negated)
     elif (z3.is_or if is_negated else z3.is_and)(term):
@@ -53,17 +57,18 @@ def conjuncts(term, is_negated=False):
 
 @functools.lru_cache(None)
 def valid_at(at, kind):
-    """That a byte is valid: a digit under a policy, which is its kind, or the separator, which has none. No other value
-    of the source or of the registers is valid."""
+    """The condition that a byte of some kind is valid. The kind is the policy under which the byte must be a digit, or
+    None if it must be the separator. A byte of the kind NO_KIND is never valid: it is no byte of the source, or it is
+    to be encoded."""
     if kind == NO_KIND:
         return z3.BoolVal(False)
     return X[at] == SEPARATOR.term if kind is None else hexadecimal.is_digit(X[at], kind)
 
 
 def validity(term, kinds):
-    """Finds the set of bytes for which a condition is equivalent to `all of them are valid`, and returns it with True.
-    If the negation of the condition is equivalent to that, it returns the set with False. If neither is, it returns no
-    bytes with None. The conjuncts on the same bytes are given to Z3 together."""
+    """Finds a set of bytes for which a condition is equivalent to `all of them are valid`, and returns it with True. If
+    the negation of the condition is equivalent to that, the set is returned with False, and if neither is, no bytes
+    are returned with None. Z3 gets all conjuncts on the same bytes at once, since each of them alone may say less."""
     ways = [(list(conjuncts(term, not sign)), sign) for sign in (True, False)]
     for terms, sign in sorted(ways, key=lambda it: -len(it[0])):
         said = {}
@@ -80,34 +85,35 @@ def validity(term, kinds):
 
 
 class Found(Exception):
-    """A loop was found that was not known before."""
+    """Raised when a loop is found that was not known before."""
 
 
 class Machine:
-    """The execution of a call. It may write so many bytes, and `check_byte` must accept each of them. `kind_of` says of
-    which kind the byte of a name has to be, and is None for a call that encodes. If the length is one number, loops
-    are executed turn by turn, and addresses may depend on the bytes."""
+    """The execution of a call. It may write `writes` bytes to the destination, and `check_byte` refuses a wrong one.
+    `kind_of` gives the kind of a byte of the source by its name, and is None for a call that encodes. If the length is
+    one number, as for grouped calls, loops are executed turn by turn, and addresses may depend on the bytes."""
 
     def __init__(self, image, length, writes, kind_of, facts, check_byte):
         self.image, self.length, self.writes, self.kind_of = image, length, writes, kind_of
         self.processor = image.processor
         self.facts, self.check_byte, self.whole = facts, check_byte, ((z3.BitVecVal(0, 64), length.term),)
         self.is_fixed = length.number is not None
-        # What is checked, the conditions that the definitions distinguish, and where the arguments end that have no
-        # register. The call may change them.
+        # The call with its policy and case; the conditions that the definitions distinguish; and where the arguments on
+        # the stack end, as a distance from the first stack pointer. The call may overwrite these arguments.
         self.call, self.cases, self.above = None, (), self.processor.above
-        # The first part of each name of a byte, the address that was executed last, and how many bytes of frames were
-        # read before something was written there.
+        # The terms that the names of bytes refer to; the address of the instruction that was executed last; and how
+        # many bytes of the frame were read before the call wrote them.
         self.terms, self.at, self.unwritten = {}, None, 0
-        # While turns are tried, nothing is shown. Of each loop that has branches on valid digits, how many a turn has,
-        # and the number of digits that it tests.
+        # Whether turns of a loop are only tried, to guess its general state. Nothing is proved meanwhile. Then, for
+        # each loop that has branches on valid digits, how many a turn has and how many digits a turn tests.
         self.is_trying, self.turns = False, set()
-        # The states that are left to execute, those that may be joined, the addresses that were executed, and the loops
-        # with their general states, which are the record that replay.py checks.
+        # The states that are left to execute, the states with which later ones may be joined, the addresses that were
+        # executed, and the loops with their general states, which are the record that replay.py checks.
         self.left, self.joined, self.executed, self.loops = [], {}, set(), []
 
     def run(self, state):
-        """The states at the ends of all paths, where the call has returned. If a loop is found, this begins again."""
+        """Executes all paths, and returns the states at their ends, where the call has returned. If a new loop is
+        found, the execution starts again."""
         while True:
             self.left, self.joined, self.executed, self.loops = [state.copy()], {}, set(), []
             try:
@@ -127,7 +133,7 @@ class Machine:
                     break
 
     def is_known(self, state):
-        """Whether a state at the begin of a build's own function was executed on a processor of another level."""
+        """Whether a state at the beginning of a build's own function was executed for a processor of another level."""
         if state.at not in self.image.entries:
             return False
         self.settle(state)
@@ -138,8 +144,10 @@ class Machine:
         return key in self.image.entered
 
     def enters(self, state):
-        """At the head of a loop, a state that comes from the loop's general state must be that state after a turn, and
-        ends there: then this returns False. Otherwise it becomes the general state, if a turn can be guessed."""
+        """Treats a state at the head of a loop. If it descends from the loop's general state, it must be the general
+        state of the next turn, which is the induction step. Its path ends there, and the result is False. Any other
+        state becomes the general state that is guessed from two tried turns. If there are no two, or if the loop is
+        short, the loop is executed turn by turn."""
         if self.is_fixed or state.at not in self.image.loops:
             return True
         self.settle(state)
@@ -159,21 +167,22 @@ class Machine:
             raise Refused(f"in the loop at {state.at:#x}: {why}") from why
 
     def is_short(self, state, first):
-        """Whether a loop has few turns, and only keeps what they have seen until it is left, so that each turn is to be
-        executed by itself: its condition is known, or what it counts down to zero is small."""
+        """Whether a loop has few turns and only collects what it reads until it is left, so that it has to be executed
+        turn by turn. Such a loop adds no tested or written bytes in a turn, and its condition for another turn is
+        constant, or the value that this condition compares with zero is small."""
         value, holds, _ = first.gap or (None, None, None)
         is_kept = value and (len(first.valid), len(first.written)) == (len(state.valid), len(state.written))
         return is_kept and (z3.is_true(holds.term) or self.is_shown(first, z3.ULE(value.term, FEW_TURNS)))
 
     def turn(self, state):
-        """Tries to find a state after a turn of a loop. Nothing is shown on the way. If there is none, returns None."""
+        """Tries to find a state after one turn of a loop, and proves nothing on the way. Without one, returns None."""
         others = self.left
         found = next((it for it in self.through(state.copy()) if it.at == state.at), None)
         self.left = others
         return found
 
     def through(self, state):
-        """Executes a loop from its head, and yields the states on all paths at its head again or where it is left."""
+        """Executes a loop from its head. Yields the state of each path where it is at the head again or has left."""
         head, last, self.left, steps = state.at, self.image.loops[state.at], [], 0
         self.advances(state)
         self.left.append(state)
@@ -211,8 +220,9 @@ class Machine:
         self.finds(state)
 
     def branches(self, state, asked, to, compared, names):
-        """Goes on at an address if a condition holds, otherwise after the instruction. The condition, which has one of
-        two names and its opposite the other one, compares a value with zero, if this is given."""
+        """Goes on at the address `to` where a condition holds, and after the instruction where it does not. `compared`
+        is the value that the condition compares with zero, or None. `names` has the names of the condition and of its
+        opposite."""
         after, loops = state.at, state.loops
         outcomes = self.outcomes(state, asked)
         for it, holds in outcomes:
@@ -226,13 +236,15 @@ class Machine:
             self.finds(it)
 
     def finds(self, state):
+        """Raises Found at a jump back that no known loop has. Loops are known by their heads and last jumps back."""
         is_back = state.at <= self.at and state.at in state.passed
         if is_back and not self.is_fixed and self.image.loops.get(state.at, 0) < self.at:
             self.image.loops[state.at] = self.at
             raise Found
 
     def returns(self, state, to):
-        """Returns to a function that the call called, or ends the call, which must have restored some registers."""
+        """Returns to another function of the file, or ends the call. At its end, the call must have restored the stack
+        pointer and the registers that belong to its caller."""
         base, at = (None, 0) if to.of else self.place(to)
         if base is self.image.base:
             state.at, state.calls = at, state.calls[:-1]
@@ -248,8 +260,9 @@ class Machine:
         return False
 
     def known(self, state):
-        """All that is known on a path, as terms. For each test that failed, an index in its spans is given a name whose
-        byte is no digit. If the length is one number, sets of indices tell more quickly what follows from tests."""
+        """All that is known on a path, as terms. For each test that failed, they give a name to the index of a byte in
+        its spans that is no digit. If the length is one number, no such name is needed, because sets of indices tell
+        more quickly what follows from tests."""
         terms = [it.term for it in (*self.facts, *state.facts)]
         for at, spans in enumerate(() if self.is_fixed else state.refused):
             it = z3.BitVec(f"invalid {at}", 64)
@@ -257,7 +270,7 @@ class Machine:
         return terms
 
     def is_shown(self, state, *terms):
-        """Whether on this path one of these terms holds for all bytes, addresses and lengths."""
+        """Whether on this path, for all bytes, addresses and lengths, at least one of these terms holds."""
         key = [it.id for it in (*self.facts, *state.facts)] + [it.get_id() for it in terms]
         refused = ids((state.refused, state.valid)) if state.refused and not self.is_fixed else None
         return is_proved((*key, len(terms), refused), lambda: [*self.known(state), *map(z3.Not, terms)])
@@ -273,14 +286,15 @@ class Machine:
         return self.is_shown(state, *[z3.BitVec(f"invalid {it}", 64) == index for it in range(len(state.refused))])
 
     def settle(self, state):
-        """Shows what the accesses since the last branch claim. What is known has not changed since then."""
+        """Proves the claims of the accesses since the last branch. What is known has not changed since then, so no
+        claim is proved from what was learned after its access."""
         claims, state.claims = state.claims, ()
         if claims and not self.is_trying and not self.is_shown(state, z3.And(*[it for it, _ in claims])):
             at = next((at for it, at in claims if not self.is_shown(state, it)), state.at)
             raise Refused(f"the instruction at {at:#x} accesses something else")
 
     def outcomes(self, state, asked):
-        """The states after a condition was tested, each with whether it holds there. The first one is this state."""
+        """The states after a condition was tested, each with whether the condition holds. The first is `state`."""
         if z3.is_true(asked.term) or z3.is_false(asked.term):
             return [(state, z3.is_true(asked.term))]
         self.settle(state)
@@ -291,8 +305,8 @@ class Machine:
         return self.possible(state, [(state, True), (other, False)])
 
     def decided(self, state, asked):
-        """Whether a condition holds, as a Value. If it does not depend on the bytes, it is known: this path takes one
-        of the outcomes, and if there is another one, another path executes this instruction again."""
+        """Whether a condition holds, as a Value. A condition on the bytes stays as it is. For any other one, this path
+        takes one of the outcomes. If the other one is possible too, a second path executes this instruction again."""
         if asked.of:
             return asked
         (_, holds), *others = self.outcomes(state, asked)
@@ -302,7 +316,7 @@ class Machine:
         return Value(z3.BoolVal(holds))
 
     def possible(self, state, outcomes):
-        """Those of these two outcomes that are not shown to be impossible. The first one becomes this state."""
+        """Those of two outcomes that are not proved to be impossible. The first of them becomes this state."""
         if not self.is_trying:
             impossible = next((it for it in outcomes if self.is_shown(it[0], z3.BoolVal(False))), None)
             outcomes = [it for it in outcomes if it is not impossible]
@@ -310,7 +324,8 @@ class Machine:
         return [(state, outcomes[0][1]), *outcomes[1:]]
 
     def of_bytes(self, state, asked):
-        """The same for a condition on the bytes. If the length is one number, sets of indices say what is possible."""
+        """Does the same as `outcomes` for a condition on the bytes. If the length is one number, sets of indices say
+        which outcomes are possible."""
         digits, sign = self.asked(asked)
         spans, other = self.spans(digits), state.copy()
         state.valid, other.refused = (*state.valid, *spans), (*state.refused, spans)
@@ -341,8 +356,8 @@ class Machine:
         return tuple([(z3.simplify(self.index(a)), z3.simplify(self.index(b) + 1)) for a, b in zip(starts, ends)])
 
     def asked(self, asked):
-        """The names of the bytes that are all valid exactly if a condition holds, with True, or exactly if it does not
-        hold, with False."""
+        """The names of bytes, with True if the condition holds exactly when all of them are valid, or with False if
+        it fails exactly then."""
         kinds = tuple([self.kind_of(it) if self.kind_of and it[0] in self.terms else NO_KIND for it in asked.of])
         key = "asked", asked.id, kinds
         if key not in MADE:
@@ -353,8 +368,8 @@ class Machine:
         return frozenset([asked.of[at] for at in places]), sign
 
     def place(self, address):
-        """The region that an address is in, as its first address, and the distance from there, which is a term for the
-        source and the destination, and a number for the stack and the file."""
+        """The region that an address is in, given by its first address, and the distance of the address from there.
+        The distance is a term for the source and the destination, and a number for the stack and the file."""
         if address.of:
             raise Refused("an address depends on the bytes")
         key = "place", address.id, self.image.base.id
@@ -369,17 +384,17 @@ class Machine:
         return MADE[key][0][0]
 
     def claim(self, state, start, size, count):
-        """Claims that some bytes from a distance on are among the first so many."""
+        """Notes a claim, which `settle` proves: `size` bytes from the distance `start` on are in the first `count`."""
         it = z3.And(z3.ULE(start, count), z3.ULE(size, count - start))
         state.claims += () if self.is_fixed and z3.is_true(z3.simplify(it)) else ((it, self.at),)
 
     def end_of(self, state):
-        """Where the frame ends, as a distance from the stack pointer at the beginning. It includes the red zone."""
+        """The lowest address of the frame, which includes the red zone, as a distance from the first stack pointer."""
         return self.place(state.registers[self.processor.pointer])[1] - self.processor.red_zone
 
     def lowers(self, state):
-        """After a change of the stack pointer: it must be in a frame of at most a page. The bytes below the red zone
-        are forgotten, because a signal handler may write there."""
+        """Checks the stack pointer after a change. It must be aligned, and in a frame of at most a page. The bytes
+        below the red zone are forgotten, because a signal handler may write there."""
         base, at = self.place(state.registers[self.processor.pointer])
         if base is not STACK or not -FRAME <= at <= self.processor.above or at % self.processor.aligned:
             raise Refused("the stack pointer leaves the frame")
@@ -400,7 +415,7 @@ class Machine:
         return found
 
     def of_frame(self, state, at):
-        """A byte of the stack, which is unknown if nothing was written there, or None outside of the frame."""
+        """A byte of the stack. It is unknown if nothing was written there, and None outside of the frame."""
         if at not in state.stack and self.end_of(state) <= at < 0:
             self.unwritten += 1
             state.stack[at] = unknown(f"unwritten {self.unwritten}")
@@ -413,13 +428,14 @@ class Machine:
             if self.is_fixed:
                 self.settle(state)
                 forget_arguments(self, state)
-        # The name of a byte is the term of the index without a number that is added, and this number.
+        # A byte is named by its index in two parts: a term, by its id, and the number that is added to this term.
         rest, number = without_number(at)
         rest = self.terms.setdefault(rest.get_id(), rest).get_id()
         return [Value(X[0], ((rest, it),)) for it in range(number, number + size)]
 
     def looked_up(self, address):
-        """The byte at an address that depends on one byte, in a table of constants: it is read for all 256 of them."""
+        """The byte of a table of constants at an address that depends on one byte of the source. The table is read for
+        each of the 256 values of this byte."""
         if address.id not in self.image.tables:
             distance = address.term - self.image.base.term
             places = [z3.simplify(z3.substitute(distance, (X[0], z3.BitVecVal(it, 8)))) for it in range(256)]
@@ -433,8 +449,8 @@ class Machine:
         return Value(self.image.tables[address.id][0], address.of)
 
     def store(self, state, address, values):
-        """Stores bytes in the frame or in the destination. In the destination of a call that decodes, this is refused
-        until all digits are known to be valid. Each byte must be the one that the call has to write there."""
+        """Stores bytes in the frame or in the destination. A call that decodes may store in the destination only when
+        all digits are known to be valid. Each byte must be the one that the call has to write there."""
         base, at = self.place(address)
         if base is STACK and (self.end_of(state) <= at <= -len(values) or
                               self.processor.above <= at <= self.above - len(values)):

@@ -1,5 +1,5 @@
-"""What must hold of a call for digits in groups, for a source of one length and groups of one size. The bytes drive its
-loops, so it is executed turn by turn. The separator is unknown."""
+"""What must hold of a call for digits in groups, for a source of one length and groups of one size. The bytes decide
+how often its loops turn, so the call is executed turn by turn. The separator is unknown."""
 import itertools
 
 import z3
@@ -13,16 +13,16 @@ NOT_A_GROUP, BAD_LENGTH = 6, 7
 GROUPED = {f"{call}_grouped": f"source length destination room {word} every separator"
            for call, word in (("encode", "upper"), ("decode", "policy"))}
 CALLS |= GROUPED
-# A source has at most so many bytes, with groups of each size.
+# Sources of at most so many bytes are checked with groups of each size.
 MOST = 32
-# Beyond them, numbers of decoded bytes and sizes of groups, by which other ways through the code are taken. Such a text
-# is decoded under the first policy only.
+# Pairs of a number of decoded bytes and the size of a group, for longer sources that take other ways through the code.
+# These texts are decoded under the first policy only.
 LONGER = [(16, 8), (29, 8), (36, 10), (43, 12), (57, 16), (60, 17), (90, 24), (116, 33), (228, 65), (340, 97),
           (452, 129), (600, 257), (1024, 512), (59, 1), (59, 2), (95, 5), (95, 7), (64, 32), (128, 64), (256, 128)]
-# What is encoded also has groups of five blocks of 32 bytes, and more.
+# A source that is encoded is also checked with groups of five blocks of 32 bytes and some more.
 ENCODED = [*LONGER, (330, 165)]
 EVERY = Value(z3.BitVec("every", 64))
-# A byte may stand between groups if it is ASCII and no hex digit.
+# A byte may stand between groups if it is ASCII and no digit of hex.
 IS_DIGIT = hexadecimal.is_digit(SEPARATOR.term, hexadecimal.EITHER_CASE)
 IS_SEPARATOR = Value(z3.And(z3.ULT(SEPARATOR.term, 128), z3.Not(IS_DIGIT)))
 
@@ -32,11 +32,11 @@ def text_length(count, every):
 
 
 class Grouped(Shown):
-    """The check of such a call. If the size of a group is None, it is any that is greater than the number of bytes."""
+    """The check of a grouped call. If the size of a group is None, it is any size above the number of bytes."""
 
     def __init__(self, image, at, call, length, every, policy, is_upper):
         self.set(call, policy, is_upper, constant(length, 8))
-        # A group that no source fills is as good as the longest one.
+        # All groups that no source fills give the same result, so this size stands for them.
         self.every, self.size, count = every, every if every is not None else length + 1, None
         if self.size and self.is_encoding:
             count = text_length(length, self.size)
@@ -52,11 +52,11 @@ class Grouped(Shown):
         return super().argument(word)
 
     def kind_of(self, name):
-        """The policy of a digit, and None for a separator."""
+        """The policy that a digit must follow, and None for a separator."""
         return self.policy if self.place(difference(self.machine.index(name), ZERO.term))[1] is not None else None
 
     def place(self, at):
-        """For an index in a text, the index of the byte and which of its digits stands there, or None."""
+        """For an index in a text, the index of its byte, and which digit of this byte is there, or None."""
         group, rest = divmod(at, 2 * self.size + 1)
         return group * self.size + rest // 2, rest % 2 if rest < 2 * self.size else None
 
@@ -90,7 +90,7 @@ class Grouped(Shown):
 
 
 def shown_grouped(image, build, call, most=None):
-    """Checks a call for some longer sources, and for each length up to a number with groups of each size."""
+    """Checks a call for some longer sources, and for each length up to `most` with groups of each size."""
     is_encoding = call == "encode_grouped"
     pairs = [(length, every) for length in range((MOST if most is None else most) + 1)
              for every in [*range((length if is_encoding else length // 2) + 1), None]]

@@ -1,5 +1,5 @@
-"""The definition of hex that the machine code is compared with. Digits are defined by intervals of characters, and the
-two digits of a byte by division. It shares nothing with the proofs."""
+"""The definition of hex with which the machine code is compared. Digits are defined by intervals of characters, and the
+two digits of a byte by division. This definition shares nothing with the proofs."""
 from z3 import And, If, Or, UDiv, ULE, ULT, URem
 
 POLICIES = EITHER_CASE, LOWERCASE, UPPERCASE = range(3)

@@ -1,4 +1,4 @@
-"""The linked library: its bytes, symbols and instructions. What is read is what a loader would load."""
+"""The linked library: its bytes, symbols and instructions, read from the parts of the file that a loader would load."""
 import re
 import subprocess
 from dataclasses import dataclass
@@ -11,7 +11,7 @@ PAGE, PROCESSORS = 4096, (x86_64.PROCESSOR, aarch64.PROCESSOR)
 SYMBOL = re.compile(r" *\d+: (\w+) +(\w+) (\w+) +\w+ +\w+ +(\w+) ([^\s@]+)")
 SECTION = re.compile(r"\] (\S+) +PROGBITS +(\w+) (\w+) (\w+) (\w+) +(\w+)")
 SEGMENT = re.compile(r"^ +(LOAD|GNU_RELRO) +(\w+) (\w+) \w+ (\w+) (\w+) (.{3})", re.M)
-# What the loader writes: an address in the file, and anything else.
+# An address that the loader writes. `RELATIVE` means that it writes an address in the file, other types anything else.
 RELOCATION = re.compile(r"^([0-9a-f]+) +[0-9a-f]+ R_(?:X86_64|AARCH64)_(\w+) +(\w+)", re.M)
 
 
@@ -20,15 +20,15 @@ def name_of(build):
 
 
 def processor_of(file):
-    """The processor that a file is for, or its members if it is an archive."""
+    """The processor that a file or each member of an archive is for, or None if it is another or they differ."""
     found = {*re.findall(r"^ +Machine: +(.*)", code.output("readelf", "-hW", file), re.M)}
     return next((it for it in PROCESSORS if found == {it.machine}), None)
 
 
 def linked(made, *objects):
-    """Links all of these objects or archives into a file that can be loaded anywhere. A constant of one object is not
-    put beside that of another one, because other linkers put other constants there. What the objects need of others is
-    at addresses where nothing is known."""
+    """Links these objects or archives completely into a file that can be loaded anywhere. The constants of each object
+    stay in sections of their own, because other linkers may put other constants beside them. What the objects need from
+    elsewhere gets addresses where nothing is known."""
     tools = processor_of(objects[0]).tools
     defined = {it.split()[-1] for it in code.output(f"{tools}nm", "-A", "--defined-only", *objects).splitlines() if it}
     needed = {it.split()[-1] for it in code.output(f"{tools}nm", "-Au", *objects).splitlines() if it}
@@ -42,7 +42,8 @@ def linked(made, *objects):
 
 @dataclass
 class Region:
-    """Addresses, and where the file has them. `entry` is 0, or the size of the constants that are there."""
+    """A range of addresses, and where it begins in the file. `entry` is 0, or the size of one constant in a section
+    whose equal constants a linker may merge."""
     first: int
     end: int
     begin: int
@@ -54,9 +55,9 @@ class Region:
 
 
 class Image:
-    """A linked file on a processor of a level, or of any level. On x86-64 a call for C chooses its build by this
-    number, which the library's constructor has stored. Addresses are distances from `base`, where the file is loaded:
-    an unknown multiple of a page, or 0 if the file can't be moved."""
+    """A linked file on a processor of a level, or of any level if it is None. On x86-64 a call for C chooses its build
+    by the level, which the library's constructor has stored. Addresses are distances from `base`, where the file is
+    loaded: an unknown multiple of a page, or 0 if the file cannot be moved."""
 
     def __init__(self, path, level=None):
         self.data, text = path.read_bytes(), code.output("readelf", "-hlSsW", path)
@@ -68,12 +69,12 @@ class Image:
         self.read_symbols(text)
         self.constants = [*self.read_sections(text)]
         self.relocated = self.read_relocations(path)
-        # The text of each instruction by its address, and the terms of table look-ups by the number of theirs.
+        # By its address the bytes and text of each instruction; and by the id of its address each look-up in a table.
         self.texts, self.tables = self.processor.texts(path), {}
-        # The addresses that were executed, and by the head of each loop that was found that of its last jump back.
+        # The addresses that were executed; and for each known loop, by the address of its head, its last jump back.
         self.executed, self.loops = set(), {}
-        # Where the own functions begin of the build that is checked, and with which states a call has come there on
-        # this processor and on those of other levels.
+        # Where the functions of the build that is checked begin, and with which states calls have come there: on the
+        # processor of this level, and on those of the levels that were checked before.
         self.entries, self.entering, self.entered = set(), set(), set()
 
     def read_symbols(self, text):
@@ -90,7 +91,7 @@ class Image:
 
     @staticmethod
     def read_sections(text):
-        """The sections that nothing writes but the loader."""
+        """The sections that only the loader writes."""
         segments = {"LOAD": [], "GNU_RELRO": []}
         for kind, begin, at, size, whole, flags in SEGMENT.findall(text):
             at = int(at, 16)
@@ -116,9 +117,10 @@ class Image:
         return {int(at, 16): int(to, 16) if kind == "RELATIVE" else None for at, kind, to in RELOCATION.findall(text)}
 
     def calls(self, build, call, has_name=True):
-        """The addresses at which a build's call is to be checked: that of the call for C, if it has one, which takes
-        its build by the level, and then those of the build's own functions that this has not executed."""
-        # A program may have the own functions of the C library and those of another one.
+        """The addresses at which a build's call is to be checked. The first is that of the call for C, which chooses
+        its build by the level, if the file has this call. Then come those functions of the build that the execution of
+        the call for C did not reach."""
+        # A program may contain the library for C and the one for Rust, each with functions of its own.
         pattern, name = rf"\w+_{name_of(build)}_{call}(_of_c)?(_unproved)?".replace("-", "_"), f"faster_hex_{call}"
         own = {at for it, places in self.symbols.items() if re.fullmatch(pattern, it) for at in places}
         called = self.symbols.get(name, set()) if has_name else set()
@@ -138,7 +140,12 @@ class Image:
         return plus(self.base, at)
 
     def bytes_at(self, at, size):
-        """Those that nothing writes, or None."""
+        """The bytes at an address to which neither the loader nor the program writes, or None."""
+        is_relocated = any(at - 8 < it < at + size for it in self.relocated)
+        return None if is_relocated else self.bytes_in_file(at, size)
+
+    def bytes_in_file(self, at, size):
+        """The bytes of the file at an address that only the loader may write, or None. No relocation is applied."""
         for it in self.constants:
             begin = at - it.first
             if it.has(Region(at, at + size, 0, "")) and not (it.entry and begin % it.entry + size > it.entry):
@@ -146,10 +153,10 @@ class Image:
         return None
 
     def constants_at(self, at, size):
-        """The values of bytes that are constant, or the level, or None."""
+        """The values of bytes that stay as the loader leaves them, or the level of the processor, or None."""
         if at in self.levels and size == 1:
             return [constant(self.level, 1)]
-        if (found := self.bytes_at(at, size)) is None:
+        if (found := self.bytes_in_file(at, size)) is None:
             return None
         found = {at + it: constant(byte, 1) for it, byte in enumerate(found)}
         for place in [it for it in self.relocated if at - 8 < it < at + size]:
@@ -169,6 +176,6 @@ class Image:
         return self.processor.instruction(at, made, text)
 
     def instructions(self, begin, size):
-        """The addresses in a function that some path should execute. The others fill space, or nothing comes there."""
+        """The addresses in a function that some path should execute. The others fill space or should not be reached."""
         return {at for at in range(begin, begin + size) if at in self.texts and
                 not self.processor.is_space(self.texts[at][1])}

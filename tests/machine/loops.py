@@ -1,41 +1,44 @@
-"""Loops, and paths that are joined: why finitely many paths stand for all executions.
+"""Loops and joined paths: why finitely many paths stand for all executions.
 
-A state stands for the executions that may be at its place: those for which all that it says is true, for some values of
-its unknowns. The addresses of the source, the destination and the stack are unknowns, and so is the one at which a file
-is loaded, if the file can be loaded anywhere. Of the last one it is used that it is a multiple of a page, and of the
-stack that it is aligned as a caller must align it. The execution of a call is shown if each execution without a trap
-follows a path to a state that is compared with the definitions. This holds for the following reasons.
+A state stands for each execution that is at the state's place and for which all that the state says is true, for some
+values of its unknowns. The addresses of the source, the destination and the stack are unknowns, and so is the address
+at which a file is loaded, if the file can be loaded anywhere. The tool relies on two facts about them: a file is loaded
+at a multiple of a page, and the stack is aligned as a caller must align it. A call is shown to be right if each
+execution without a trap follows a path to a state that is compared with the definitions. This holds for the following
+reasons.
 
-- *Paths.* At a branch both outcomes are followed, unless Z3 proves that one is impossible. Each access is shown to be
+- *Paths.* At a branch both outcomes are followed, unless Z3 proves that one is impossible. Each access is proved to be
   allowed from what was known when it was made. Source and destination do not overlap, so no store changes the source.
 - *Bytes.* What is proved of a condition or of a stored byte holds for all values of its bytes. So it also holds where
-  two of their names mean one byte. If a test failed, some byte in its spans is no digit, and its index lies in no span
-  of valid digits. Each query may therefore use such an index. The spans of a test are not empty and lie in the source,
-  because its bytes were read.
-- *Loops.* A general state says what holds at a loop's head before turn k, for any k below the bound N. It is a guess,
-  and nothing depends on how it is made. An induction on k shows that it stands for each arrival at the head: at the
-  entry it is the state for k = 0, and 0 < N. Each path from it back to the head ends as the state for k + 1, and
-  k + 1 < N. Arithmetic is that of 64 bits, so a sum that wraps is seen. Paths that leave the loop go on from the
-  general state. As k + 1 < N is shown for each further turn, there are at most N turns. A loop that gets no general
-  state is executed turn by turn, as if it were written out.
-- *Forgetting.* A state that says less stands for more executions.
-- *Joins.* A joined state stands for the executions of both states. What it says of facts, valid digits, written bytes
-  and calls that have not returned is what both say, because only states that agree in these are joined. A register, a
-  byte of a vector or of the stack that differs is unknown. One that only one state has is forgotten. Flags and masks
-  are forgotten before states are compared, but for flags with a known value, in which they agree. If failed tests
-  differ, they are replaced by one of the whole source, which says less. The number of branches is the greater one. The
-  name of an unknown has the loop's turn or the place of the join in it. A state has each turn once and is joined once
-  at each place, so no two unknowns of a state share a name. A joined state is explored in the same run, unless it is
-  the earlier one, which has been or will be.
-- *Ends of paths.* A path ends at the head of a loop whose general state it comes from, where it is joined, or where the
-  call returns. It cannot go through a join and a loop without end: a path forgets at most twice, once when a digit is
-  found to be invalid and once when all are known to be valid, since only then joins are made, and between two of these
-  it takes each loop from its general state once. A path of more instructions than a limit is refused.
-- *Levels.* A call takes the same path from the begin of a build's function on, if it comes there in the same state. So
-  if a processor of another level has been executed from there, this is not done again.
+  two of their names mean one byte. If a test failed, some byte in its spans is no digit, and the index of this byte
+  lies in no span of valid digits. Each query may therefore use such an index. The spans of a test are not empty and lie
+  in the source, because the call has read their bytes.
+- *Loops.* The general state of a loop is its invariant: it says what holds at the loop's head before turn k, for any k
+  below a bound N. It is guessed, and the argument does not depend on how. An induction on k shows that the general
+  state stands for each arrival at the head. In the base case, the state at the entry is the general state for k = 0,
+  and 0 < N. In the induction step, each path from the general state back to the head ends in the general state for
+  k + 1, and k + 1 < N. Arithmetic is that of 64 bits, so a sum that wraps around is noticed. Paths that leave the loop
+  go on from the general state. As k + 1 < N is proved for each further turn, there are at most N turns. A loop that
+  gets no general state is executed turn by turn, as if it were unrolled.
+- *Forgetting.* A state that says less stands for more executions, so each path may forget what it knows.
+- *Joins.* A joined state stands for the executions of both states. Only states that agree in facts, valid digits,
+  written bytes and calls that have not returned are joined, so the joined state keeps these. A register, a byte of a
+  vector or a byte of the stack becomes unknown if its values differ, and is forgotten if only one state has it. Flags
+  and masks are forgotten before states are compared, except for flags with a known value, in which joined states agree.
+  If failed tests differ, each of them is replaced by a test of the whole source, which says less. The number of
+  branches is the greater one. The name of an unknown contains the loop's turn or the place of the join. A state has
+  each turn once and is joined once at each place, so no two unknowns of a state share a name. A joined state is
+  explored in the same run, unless it equals the earlier state, which has been or will be explored.
+- *Ends of paths.* A path ends at the head of a loop from whose general state it descends, at a join where an earlier
+  state stands for it, or where the call returns. It cannot go through joins and loops forever. A path is joined only
+  when it forgets. This happens at most twice: when a digit is found to be invalid, and when all digits are known to be
+  valid. In a grouped call it happens once, before the source is first read. Between two joins, a path takes each loop
+  from its general state once. A path with too many instructions is refused.
+- *Levels.* If a call comes to the beginning of a build's function in the same state on processors of two levels, it
+  takes the same paths from there on. So these are executed for one of the levels only.
 
 The outcome is partial correctness: a call that returns has returned what the definitions say. All loops end. The source
-has at most 2^64 - 2 bytes, because no pointer to 2^64 - 1 bytes is valid: it would have to be 0."""
+has at most 2^64 - 2 bytes, because a pointer to 2^64 - 1 bytes would have to be 0, which is not valid."""
 from itertools import pairwise
 
 import z3
@@ -45,19 +48,22 @@ from .state import INDEX, LENGTH, difference, ids, is_in
 from .terms import ZERO, always, never
 from .values import Value, apply, unknown
 
-# The tests of longer sources may be in turns of loops, and what is learned on the way through them is forgotten.
+# Only a source of more bytes than this may have tests in the turns of loops. For such a source, a path forgets what it
+# learned since the source was first read.
 SHORT = 256
 IS_LONG = z3.UGT(LENGTH.term, SHORT)
 
 
 class Loop:
-    """A loop with its general state. The guess is made from the state before it and those after two turns that were
-    tried. What these change by the same number is taken to change so in each turn, and what else they change is taken
-    to be unknown. The spans that a turn tests or writes are taken to follow those of the turn before."""
+    """A loop with its general state, which is guessed from the state before the loop and the states after two tried
+    turns. A value that both turns change by the same number is taken to change so in each turn. Any other value that
+    they change is taken to be unknown. The spans that a turn tests or writes are taken to follow those of the turn
+    before."""
 
     def __init__(self, machine, before, first, second):
         self.machine, self.turn = machine, z3.BitVec(f"turn {before.turns}", 64)
-        # The places whose values are unknown, and those that change with the turn; the states in which it was left.
+        # The places (registers, bytes of vectors and bytes of the stack) whose values are unknown, and those whose
+        # values change with the turn; the states in which the loop was left; and the state before the loop.
         self.unknown, self.moving, self.exits, self.before = set(), set(), [], before.copy()
         self.state = it = before.copy()
         it.turns += 1
@@ -73,7 +79,7 @@ class Loop:
             raise Refused("a loop without a turn")
 
     def general(self, place, values):
-        """The value in a place before any turn, from those before the first three turns."""
+        """The value of a place before any turn, guessed from the values before the first three turns."""
         first = values[0]
         if all(it.is_same(first) for it in values):
             return first
@@ -86,7 +92,7 @@ class Loop:
         return Value(z3.simplify(first.term + steps.pop() * self.turn))
 
     def growth(self, spans):
-        """The number of indices in the spans of the first turn, and the span of those in all turns before any."""
+        """The number of indices in the spans of the first turn, and one span with the indices of all earlier turns."""
         if not spans:
             return 0, ()
         sizes = [difference(end, start) for start, end in spans]
@@ -97,8 +103,8 @@ class Loop:
         return sum(sizes), ((start, z3.simplify(start + sum(sizes) * self.turn)),)
 
     def bound(self, first, second):
-        """That the turn is below the bound. The last branch of a turn compares a value with zero, and the bound is how
-        often that value can change by its step before the condition for another turn no longer holds."""
+        """The condition that the turn is below the bound. The last branch of a turn compares a value with zero. The
+        bound is how often this value can change by its step before the condition for another turn fails."""
         value, holds, name = first.gap or (None, None, None)
         step = value and second.gap and value.term.size() == 64 and difference(second.gap[0].term, value.term)
         if not step:
@@ -113,7 +119,7 @@ class Loop:
         return z3.simplify(z3.substitute(term, (self.turn, turn)))
 
     def check(self, after):
-        """Checks that a state after a turn is the general state before the next turn."""
+        """Checks the induction step: that a state after a turn is the general state before the next turn."""
         values, count = after.values(), len(self.state.facts)
         for place, value in self.state.values().items():
             if place not in values or not self.is_next(place, value, values[place]):
@@ -126,28 +132,28 @@ class Loop:
             raise Refused("a loop leaves bytes of the destination out")
         if not self.machine.is_shown(after, self.at(self.state.facts[-1].term, self.turn + 1)):
             raise Refused("a loop may have more turns than were counted")
-        # How many branches on valid digits a turn has. Only a longer source may have some.
+        # The number of branches on valid digits in a turn. Only a source of more than SHORT bytes may have any.
         tests = 0 if after.refused else after.tests - self.state.tests
         if tests and not self.machine.is_shown(after, IS_LONG):
             raise Refused("a loop branches on the bytes of a short source")
         self.machine.turns |= {(tests, self.digits)} if tests else set()
 
     def is_next(self, place, value, after):
-        """Whether a place has the value that it has before the next turn."""
+        """Whether the value of a place after a turn is the one of the general state before the next turn."""
         if place in self.unknown or place not in self.moving and value.is_same(after):
             return True
         is_public = not value.of and not after.of and value.term.size() == after.term.size()
         return is_public and difference(self.at(value.term, self.turn + 1), after.term) == 0
 
     def covers_next(self, after, spans, others):
-        """Whether some spans of the general state, for the next turn, are within others."""
+        """Whether some spans of the general state, as they are before the next turn, lie within others."""
         spans = [(self.at(start, self.turn + 1), self.at(end, self.turn + 1)) for start, end in spans]
         return self.machine.is_shown(after, z3.Implies(is_in(spans, INDEX), is_in(others, INDEX)))
 
 
 def forget(machine, state):
-    """Once all digits are known to be valid, or one is first known not to be, the tests before no longer matter. If
-    the source is long, what was learned since it was first read does not matter either."""
+    """Forgets what no longer matters once all digits are known to be valid, or one is first known not to be: the tests
+    before, and for a long source also what was learned since the source was first read."""
     is_valid = not state.refused and machine.covers(state, state.valid, machine.length.term)
     if is_valid or state.refused:
         known = state.copy()
@@ -159,21 +165,21 @@ def forget(machine, state):
 
 
 def forget_arguments(machine, state):
-    """Before a call for groups reads its source, only those facts matter that the definitions distinguish. All others,
-    as between which digits the separator is, are forgotten."""
+    """Before a grouped call reads its source, only the facts matter that the definitions distinguish. All others are
+    forgotten, for example in which gap between the intervals of digits the separator lies."""
     known = [it for case in machine.cases for it in (case, apply(z3.Not, case)) if machine.is_shown(state, it.term)]
     state.facts, state.is_general = tuple(known), True
 
 
 def is_new(machine, state):
-    """Joins a state that has forgotten with those that came to its place before with the same facts. What differs among
-    them becomes unknown. Returns False if the earlier ones stand for this state."""
+    """Joins a state that has just forgotten with the earlier state at its place that has the same key, if there is one.
+    Values that differ become unknown. Returns False if the earlier state stands for this one."""
     state.is_general = False
     if state.at in state.joins:
         return True
-    # What is on the stack as a number is often a constant or a flag, so it must be the same.
+    # A known number on the stack is often a constant or a flag that later code needs, so it must be the same.
     numbers = tuple([(at, it.number) for at, it in sorted(state.stack.items())])
-    # If the length is one number, a branch may still need flags that were set before, whose value is then known.
+    # If the length is one number, a later branch may need flags set before. Those with a known value are kept.
     flags = {it: apply(*flag).term for it, flag in state.flags.items() if flag} if machine.is_fixed else {}
     flags = {it: (always, ZERO) if z3.is_true(term) else (never, ZERO) for it, term in flags.items()
              if z3.is_true(term) or z3.is_false(term)}
@@ -190,7 +196,7 @@ def is_new(machine, state):
 
 
 def join(machine, state, before):
-    """Makes a state the joined one. Returns whether that is the earlier one."""
+    """Replaces a state by its join with an earlier state. Returns whether the join equals the earlier state."""
     others, values, refused = before.values(), state.values(), ids(before.refused)
     for place in [*values]:
         if place not in others:

@@ -1,9 +1,13 @@
-"""A second check of loops. For each loop that was explored it takes a record: the state before the loop, the general
-state, which says what holds before turn k, and the states in which the loop was left, from which the exploration went
-on. It shows by an own solver that the state before the loop is the general state for k = 0, that each path through the
-loop's instructions from the general state comes back as the one for k + 1, and that each path that leaves the loop does
-so as a state of the record. It has from the explorer the effect of instructions and what a state says as terms, but
-neither how that one guesses, nor how it forgets and joins, nor how it compares states."""
+"""A second check of loops. The explorer, which is the symbolic execution of execution.py, leaves a record of each loop:
+the state before the loop, the general state, which says what holds before turn k, and the states in which the loop was
+left, from which the exploration went on. The replay takes this record and proves three statements with a solver of its
+own. The base case is that the state before the loop is the general state for k = 0. The induction step is that each
+path through the loop from the general state comes back as the general state for k + 1. The third statement is that each
+path that leaves the loop does so in a state of the record.
+
+The replay shares with the explorer the execution of a turn, the effects of instructions, the rules for accesses and
+branches, and the function that turns a state into terms. The replay does not share the functions by which the explorer
+guesses general states, forgets, and joins and compares states."""
 import z3
 
 from . import Refused
@@ -12,12 +16,12 @@ from .state import INDEX, is_in
 from .values import unknown
 
 NO_TURN = z3.BitVecVal(0, 64)
-# What was shown, by the numbers of terms. A number stays valid while its term is kept, so the terms are kept too.
+# The answers of the solver, by the ids of terms. Z3 may give the id of a freed term to another one, so terms are kept.
 SHOWN = {}
 
 
 def holds(known, term):
-    """Whether a term follows from others. A term that is one of them does."""
+    """Whether a term follows from others. A term that is one of them needs no solver."""
     key = *[it.get_id() for it in known], term.get_id()
     if key[-1] not in key[:-1] and key not in SHOWN:
         solver, terms = z3.SolverFor("QF_BV"), [*known, z3.Not(term)]
@@ -27,22 +31,23 @@ def holds(known, term):
 
 
 def are_within(known, spans, others):
-    """Whether each index of some spans is one of others."""
+    """Whether each index in some spans is in others too."""
     are_others = len(spans) <= len(others) and all(a.eq(b) for one, two in zip(spans, others) for a, b in zip(one, two))
     return are_others or holds(known, z3.Implies(is_in(spans, INDEX), is_in(others, INDEX)))
 
 
 class Body(Machine):
+    """The explorer's machine, as it executes one turn of a loop here."""
     def __init__(self, explorer):
         self.__dict__.update(explorer.__dict__)
         self.executed, self.is_fixed = set(), False
 
     def forgets(self, _):
-        """Nothing is forgotten in one turn."""
+        """Does nothing, because the replay of one turn may keep all that it knows."""
 
 
 class Replay:
-    """The replay of a loop. To make it is to check it."""
+    """The replay of a loop. The constructor does the whole check, and raises Refused if something does not hold."""
 
     def __init__(self, explorer, loop):
         self.body, self.loop, self.turn, self.free = Body(explorer), loop, loop.turn, {}
@@ -50,7 +55,7 @@ class Replay:
             self.is_fresh()
             self.is_as(loop.before, NO_TURN)
             general = loop.state.copy()
-            # The record is not to be changed by what is executed here.
+            # Without this, each branch out of the loop would add an exit to the record.
             general.loops = {}
             for state in self.body.through(general):
                 self.body.settle(state)
@@ -62,8 +67,8 @@ class Replay:
             raise Refused(f"the loop at {loop.state.at:#x}, replayed: {why}") from why
 
     def is_fresh(self):
-        """Refuses a record in which the turn or what is unknown occurs before the loop, or in which the general state
-        says something that is not compared."""
+        """Refuses a record in which the turn or an unknown of the loop occurs before the loop already, or in which the
+        general state says something that is not compared."""
         before, general = self.loop.before, self.loop.state
         values, others, names = general.values(), before.values(), set()
         for place in self.loop.unknown:
@@ -86,7 +91,7 @@ class Replay:
         return [(self.at(first, turn), self.at(end, turn)) for first, end in spans]
 
     def is_as(self, state, turn):
-        """Refuses a state that is not the general state before a turn."""
+        """Refuses a state that is not the general state before the given turn."""
         general, known, values = self.loop.state, self.body.known(state), state.values()
         for place, value in general.values().items():
             if place in self.loop.unknown:
@@ -110,20 +115,20 @@ class Replay:
         return is_public and holds(known, self.at(value.term, turn) == other.term)
 
     def has_no_turn(self, term):
-        """Whether a term does not depend on the turn. The term is kept, since its number stays valid only as long."""
+        """Whether a term does not depend on the turn. The term is kept, since Z3 may reuse the id of a freed term."""
         number = term.get_id()
         if number not in self.free:
             self.free[number] = z3.substitute(term, (self.turn, self.turn + 1)).eq(term), term
         return self.free[number][0]
 
     def is_free(self, value):
-        """Whether a value does not depend on the turn, neither itself nor by the places of its bytes."""
+        """Whether a value does not depend on the turn, neither by its term nor by the indices of its bytes."""
         terms = self.body.terms
         names = {it[0] for it in value.of} & terms.keys()
         return self.has_no_turn(value.term) and all(self.has_no_turn(terms[it]) for it in names)
 
     def stands_for(self, explored, state):
-        """Whether a state that was explored says no more than another one."""
+        """Whether a state of the record says no more than another state, and therefore stands for it."""
         known, values = self.body.known(state), state.values()
         is_known = all(place in values and value.is_same(values[place]) for place, value in explored.values().items())
         return is_known and self.has_flags_of(explored, state) and all(holds(known, it.term) for it in explored.facts) \

@@ -1,8 +1,8 @@
 """The state of a path: what registers, flags and memory hold, and what is known because the path was taken.
 
-A byte of the source is named by a term and a distance from it, whose sum is its index. Two names may mean one byte,
-because blocks overlap. A set of indices is a list of spans. A span is a pair of terms: its first index, and the index
-after its last one."""
+A byte of the source is named by the id of a term and a number, and the sum of the term and the number is its index. Two
+names may mean the same byte, because blocks overlap. A set of indices is a list of spans. A span is a pair of terms:
+its first index, and the index after its last one."""
 import copy
 
 import z3
@@ -16,15 +16,15 @@ LENGTH, ROOM = Value(z3.BitVec("length", 64)), Value(z3.BitVec("room", 64))
 POLICY, SEPARATOR = Value(z3.BitVec("policy", 8)), Value(z3.BitVec("separator", 8))
 RETURN, NONE, INDEX = unknown("return", 8), constant(0, 8), z3.BitVec("index", 64)
 
-# In its model all variables are 0.
+# A solver without conditions. Its model, which is completed on demand, gives the value 0 to each variable.
 EMPTY = z3.Solver()
 EMPTY.check()
 
 
 def difference(a, b):
-    """By how much the first of two terms is greater, or None if that is not one number. Z3 writes some equal terms in
-    two ways and does not simplify their difference. Then it has to prove that the difference is always what it is if
-    all variables are 0."""
+    """The number by which the first of two terms is greater, or None if it is not always the same. Z3 writes some equal
+    terms in two ways, and does not simplify their difference to a number. Then Z3 must prove that the difference is
+    always what it is if all variables are 0."""
     it = z3.simplify(a - b)
     number = it if z3.is_bv_value(it) else EMPTY.model().eval(it, True)
     is_one = number is it or is_proved(("difference", it.get_id()), lambda: [it != number])
@@ -40,7 +40,7 @@ def indices(spans):
 
 
 def ids(it):
-    """The numbers that Z3 gives to the terms of some values or spans. Terms are compared by these and never as text,
+    """The ids that Z3 gives to the terms of some values or spans. Terms are compared by these and never as text,
     because Z3 prints some different terms alike."""
     if isinstance(it, tuple):
         return tuple(map(ids, it))
@@ -48,33 +48,33 @@ def ids(it):
 
 
 class State:
-    """What holds at a place of a path. All of it is true of each execution that takes this path. A path may be dropped
-    because an earlier one stands for it, and the state after a turn of a loop because that before the next turn does.
-    So loops.py must treat each field that is read later: the first two groups are compared or become unknown, and the
-    others stand under their comment."""
+    """What is known at a place of a path. All of it is true of each execution that takes this path. An earlier state of
+    the same place may stand for this one, and the general state of a loop stands for all states before its turns. So
+    loops.py must compare each field that is read later, or make its value unknown, or forget it. Exceptions are the
+    fields whose comments say why this is not needed."""
 
     def __init__(self, at, processor):
         self.at = at
-        # The values in places: registers, the bytes of vectors, and bytes of the stack.
+        # The values of places: registers, bytes of vectors, and bytes of the stack.
         self.registers, self.vectors = {**processor.before}, [[*it] for it in processor.vectors]
         self.stack = {**processor.stack}
-        # The flags, and the 64 bits of each mask register that was written. They are forgotten there.
+        # The flags, and 64 bits of each mask register that was written. loops.py forgets both when it compares states.
         self.flags, self.masks = dict.fromkeys("czso"), {}
-        # Conditions on public values that hold; the spans of the source that are valid digits; for each test that
-        # failed, the spans of which some byte is no digit; and the spans of the destination that were written.
+        # Conditions on public values that hold; the spans of the source whose bytes are valid digits; for each test
+        # that failed, the spans in which some byte is no digit; and the spans of the destination that were written.
         self.facts, self.valid, self.refused, self.written = (), (), (), ()
-        # The most branches on bytes, not counting those in turns of loops.
+        # The most branches on bytes so far, without those in turns of loops.
         self.tests = 0
-        # What must hold so that the accesses since the last branch were allowed, each with the address of its
-        # instruction. Before a fact is added, before the head of a loop and at the end all of them are shown.
+        # The conditions under which the accesses since the last branch are allowed, each with the address of its
+        # instruction. They are proved before a fact is added, at the head of a loop and at the end of the path.
         self.claims = ()
-        # The loops whose general state this path comes from, by their heads; how many turns have a name; and the
-        # addresses at which the path was joined. No two unknowns of one state share a name because of the last two.
+        # The loops from whose general states this path descends, by the addresses of their heads; how many turns have a
+        # name; and the addresses where the path was joined. The last two keep apart the names of a state's unknowns.
         self.loops, self.turns, self.joins = {}, 0, frozenset()
-        # What only guides the search. A wrong value costs time, or ends in a refusal: how many facts were known when
-        # the source was first read; whether the path has just forgotten some; the addresses that it executed, and how
-        # many instructions; what its last branch on public values compared with zero, with the condition that held and
-        # its name; and where calls return to.
+        # Fields that only guide the search, where a wrong value costs time or ends in a refusal: how many facts were
+        # known when the source was first read; whether the path has just forgotten some; the addresses that it has
+        # executed, and how many instructions; the value that its last branch on public values compared with zero, with
+        # the condition that held there and its name; and the addresses to which functions return.
         self.early, self.is_general, self.passed, self.steps, self.gap, self.calls = None, False, set(), 0, None, ()
 
     def copy(self):

@@ -12,7 +12,7 @@ from .state import DESTINATION, LENGTH, POLICY, ROOM, SEPARATOR, SOURCE, State, 
 from .values import X, Value, apply, bytes_of, constant, is_proved, joined, unknown
 
 DONE, ODD_LENGTH, TOO_SMALL, INVALID, OVERFLOW, UNKNOWN_POLICY = range(6)
-# Stands for every number that is no policy.
+# Stands for each number that names no policy.
 OTHER = 3
 CALLS = {
     "check": "source length", "check_with_case": "source length policy", "first_invalid": "source length policy",
@@ -24,19 +24,20 @@ POLICIES = {"check_lower": 1, "check_upper": 2}
 CALLS |= dict.fromkeys(POLICIES, "source length")
 ZERO = constant(0, 8)
 IS_ODD = Value(LENGTH.term & 1 == 1)
-# Twice the length is no number of 64 bits.
+# Twice the length does not fit into 64 bits.
 IS_HUGE = Value(LENGTH.term < 0)
 IS_NO_POLICY = Value(z3.UGT(POLICY.term, hexadecimal.UPPERCASE))
 
 
 def is_valid_pointer(pointer, length):
-    """Whether a pointer to so many bytes may be passed: null only for no bytes, and none beyond the last address."""
+    """Whether a pointer to so many bytes may be passed. It may be null only for 0 bytes, and the bytes must not go
+    beyond the last address."""
     return z3.And(z3.Or(pointer != 0, length == 0), z3.ULE(pointer, ~length))
 
 
 class Shown:
-    """The check of a call for any length and any room, under one policy, or for one case of letters. To make it is to
-    check it: if something does not hold, Refused is raised. Only lengths from `least` to `most` are checked."""
+    """The check of a call under one policy, or for one case of letters, for any length from `least` to `most` and any
+    room. The constructor does the whole check, and raises Refused if something does not hold."""
 
     def __init__(self, image, at, call, policy, is_upper, most=None, least=0):
         self.set(call, policy, is_upper, LENGTH)
@@ -71,8 +72,8 @@ class Shown:
             self.check(it)
 
     def count(self, is_of_long):
-        """The most branches on bytes on a path where all digits are valid, for short sources or for long ones. Those in
-        turns of loops, which only long sources have, do not count."""
+        """The most branches on bytes on a path where all digits are valid. If `is_of_long` is False, only the paths
+        that a short source can take count. Branches in turns of loops, which only long sources have, never count."""
         ends = [it for it in self.ends if not it.refused and (is_of_long or not self.machine.holds(it, Value(IS_LONG)))]
         most = max([it.tests for it in ends], default=0)
         if not is_of_long and most > (self.call == "first_invalid" or self.call.startswith("decode")):
@@ -80,7 +81,7 @@ class Shown:
         return most
 
     def argument(self, word):
-        """The register of an argument. If the argument is one byte, the other bytes of the register are unknown."""
+        """The eight bytes that pass an argument. If the argument is one byte, the other seven are unknown."""
         policy = POLICY if self.policy == OTHER else constant(self.policy, 1)
         byte = {"upper": constant(int(self.is_upper), 1), "policy": policy, "separator": SEPARATOR}.get(word)
         known = {"source": SOURCE, "destination": DESTINATION, "room": ROOM, "length": self.length}
@@ -90,7 +91,7 @@ class Shown:
         return [IS_HUGE if self.is_encoding else IS_ODD, self.is_small] if self.has_room else []
 
     def check(self, state):
-        """Compares the end of a path with the definitions, for each case that these distinguish."""
+        """Compares the end of a path with the definitions, in each of the cases that they distinguish."""
         states = [(state.copy(), [])]
         for case in self.machine.cases:
             states = [(it, [*known, holds]) for one, known in states for it, holds in self.machine.outcomes(one, case)]
@@ -105,7 +106,7 @@ class Shown:
                 self.check_bool(it, status)
 
     def expected(self, state, is_no_length=False, is_small=False):
-        """The status and the number that the definitions give. If a digit is invalid, check_invalid has the number."""
+        """The status and the number that the definitions give. For an invalid digit check_invalid checks the number."""
         if self.policy == OTHER:
             return UNKNOWN_POLICY, ZERO
         if is_no_length:
@@ -121,7 +122,7 @@ class Shown:
         return self.machine.covers(state, (*state.valid, *others), self.length.term)
 
     def check_answer(self, state, status, number):
-        """Compares a struct: the number is in a register, the status and the byte are in another one."""
+        """Compares a struct that is returned: the number in one register, the status and the byte in another."""
         found, others = (state.registers[it] for it in self.machine.processor.answer)
         others = bytes_of(others)
         if not self.is_equal(state, others[0], z3.BitVecVal(status, 8)):
@@ -134,7 +135,7 @@ class Shown:
             raise Refused("does not look at all digits")
 
     def check_invalid(self, state, index, byte):
-        """The path must know that all bytes before the reported one are valid digits, and that it is none."""
+        """Requires that the path knows the reported byte to be no digit, and all bytes before it to be valid digits."""
         if index.of or not self.machine.covers(state, state.valid, index.term) \
                 or not self.machine.is_one_invalid(state, index.term):
             raise Refused("reports another byte as the first invalid one")
@@ -143,7 +144,7 @@ class Shown:
             raise Refused("reports the first invalid byte as another one")
 
     def check_bool(self, state, status):
-        """Checks that the result is true exactly if all digits are valid."""
+        """Checks that the result is true exactly if the policy is known and all digits are valid."""
         answer = bytes_of(state.registers[self.machine.processor.answer[0]])[0]
         is_true, is_false = (apply(operator.eq, answer, constant(it, 1)) for it in (1, 0))
         if not apply(z3.Not, is_true).is_same(is_false):
@@ -156,7 +157,7 @@ class Shown:
             raise Refused("answers wrongly")
 
     def check_byte(self, state, at, value):
-        """Checks a byte that is written: one that two digits stand for, or one of the two digits of a byte."""
+        """Checks a byte that is written: the byte that two digits stand for, or one of the two digits of a byte."""
         if len(value.of) != (1 if self.is_encoding else 2) or any(it[0] not in self.machine.terms for it in value.of):
             raise Refused(f"what is written depends on {value.of}")
         sides = [self.side(state, at, self.machine.index(it)) for it in value.of]
@@ -165,7 +166,7 @@ class Shown:
             raise Refused("what is written is wrong")
 
     def side(self, state, at, index):
-        """Which digit of a byte is concerned, 0 or 1, for an index in the destination and one in the source."""
+        """Which digit of a byte two indices concern, 0 or 1: `at` in the destination and `index` in the source."""
         term = at - 2 * index if self.is_encoding else index - 2 * at
         number = difference(term, ZERO.term)
         for it in range(2):
@@ -174,7 +175,7 @@ class Shown:
         raise Refused("what is written depends on other bytes")
 
     def differs(self, term, sides):
-        """Conditions that hold together only if a byte is wrong although the digits are valid."""
+        """Conditions that hold together only if the byte that is written is wrong and the digits are valid."""
         if self.is_encoding:
             return [term != hexadecimal.digits_of(X[0], self.is_upper)[sides[0]]]
         if sorted(sides) != [0, 1]:
@@ -190,7 +191,7 @@ def ways_of(call):
 
 
 def shown(image, build, call, most=None, least=0):
-    """Checks a call for every length, in each of its ways."""
+    """Checks a call for each length from `least` to `most`, under each policy or for each case of letters."""
     for at in image.calls(build, call, call not in POLICIES):
         for policy, is_upper in ways_of(call):
             yield Shown(image, at, call, policy, is_upper, most, least)

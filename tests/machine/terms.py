@@ -1,7 +1,7 @@
-"""Functions from terms to terms that the instructions of each processor are made of. They stand here by name, since
-values.py makes and keeps a term by its function.
+"""Functions from terms to terms of which the instructions of each processor are made. Each has a name here, because
+values.py caches a term under the function that made it.
 
-Terms are bit vectors of Z3. There, `<`, `>` and `>>` take the highest bit for a sign, while ULT and LShR do not."""
+A term is a bit vector of Z3. There, `<`, `>` and `>>` take the highest bit for a sign, while ULT and LShR do not."""
 from functools import partial
 
 from z3 import And, BitVecVal, BoolVal, If, Not, SignExt, ULT
@@ -10,7 +10,7 @@ from . import Refused
 from .values import apply, bytes_of, constant, joined
 
 ZERO = constant(0, 1)
-# A number with a sign, and so many bytes more.
+# Functions that extend a number with a sign by so many bytes.
 SIGNED = {it: partial(SignExt, 8 * it) for it in range(1, 8)}
 
 
@@ -19,7 +19,7 @@ def bits_and_not(a, b):
 
 
 def chosen(control, *lanes):
-    """The lane that the lowest bits of a control lane name."""
+    """The lane that the lowest bits of a control lane select."""
     found = lanes[0]
     for at in range(1, len(lanes)):
         found = If(control & len(lanes) - 1 == at, lanes[at], found)
@@ -34,8 +34,8 @@ def lesser(a, b):
     return If(ULT(a, b), a, b)
 
 
-# Functions that give a flag: c for carry, z for zero, s for sign, o for overflow. In the state of a path a flag is such
-# a function with its operands.
+# Functions that give a flag: c for carry, z for zero, s for sign, o for overflow. The state of a path has each flag as
+# such a function with its operands.
 
 def never(*_):
     return BoolVal(False)
@@ -66,8 +66,8 @@ def overflow_of_difference(a, b):
 
 
 def condition(flags, table, name):
-    """Whether a condition of a table holds, where it is a function and its flags, or the opposite of another one. A
-    flag that is not modelled is refused."""
+    """Whether a condition holds. The table has a condition as a function with its flags, or as the name of the opposite
+    condition. A condition that needs a flag without a model is refused."""
     if isinstance(table[name], str):
         return apply(Not, condition(flags, table, table[name]))
     function, needed = table[name]
@@ -87,7 +87,7 @@ def spread(values):
 
 
 def by_lanes(function, size, *lists):
-    """Applies a function to the lanes of so many bytes that stand at the same place."""
+    """Applies a function to the lanes of `size` bytes that stand at the same place of each list."""
     return spread([apply(function, *map(joined, it)) for it in zip(*[lanes_of(one, size) for one in lists])])
 
 

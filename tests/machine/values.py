@@ -1,8 +1,9 @@
 """The values in registers and memory: terms of Z3 over unknown bytes.
 
-A term has the variables byte0, byte1, and so on. Its Value says which bytes of the source these are. So what a call
-does to its first digit and what it does to its last one are the same term, which is built, simplified and proved only
-once. A value without such bytes is public: it may depend on addresses or on the room, but not on the source."""
+A term has the variables byte0, byte1, and so on. Its Value names the bytes that these stand for, which belong to the
+source, or are unknown bytes of registers or of the stack. So what a call does to its first digit and what it does to
+its last digit are the same term, which is built, simplified and proved only once. A value without such bytes is public:
+it may depend on addresses or on the room, but not on the source."""
 import functools
 import operator
 import re
@@ -10,20 +11,20 @@ import re
 import z3
 
 X = [z3.BitVec(f"byte{at}", 8) for at in range(4096)]
-# For a term with more bytes than this, it is not examined which of them it really needs.
+# A term with more bytes than this keeps all of them, without a search for those that it really needs.
 FEW = 32
-# The bytes of a term are found in its text, which Z3 prints fastest in this form.
+# The bytes of a term are found in its text, which Z3 prints fastest in this format.
 z3.z3core.Z3_set_ast_print_mode(z3.main_ctx().ref(), z3.Z3_PRINT_LOW_LEVEL)
-# The terms that were built, and the answers of Z3. They are keyed by Z3's numbers of terms. A number stays valid while
-# its term is kept, so the operands are kept too.
+# The terms that were built, and the answers of Z3. A key consists of the ids that Z3 gives to terms. Z3 may give the id
+# of a freed term to another one, so the operands are kept too.
 MADE, ANSWERS = {}, {}
-# The last models that Z3 found, and how many are kept.
+# The models that Z3 found last, and how many of them are kept.
 MODELS, MOST_MODELS = [], 16
 
 
 class Value:
-    """A term with its number in Z3 and the names of its bytes, in the order of its variables. `parts` are its bytes if
-    they were taken, and `whole` is the value that it is a part of."""
+    """A term with its id in Z3 and the names of its bytes, in the order of its variables. `parts` has the value's bytes
+    once `bytes_of` has taken it apart, and `whole` is the value that this one is a byte of."""
     __slots__ = "term", "of", "id", "parts", "whole"
 
     def __init__(self, term, of=()):
@@ -43,11 +44,11 @@ def constant(number, size):
 
 
 def concat(*terms):
-    """One term of several, the lowest first."""
+    """Joins several terms into one, the lowest first."""
     return z3.Concat(*reversed(terms)) if len(terms) > 1 else terms[0]
 
 
-# A function for each place of a byte, since terms are kept by their function.
+# There is one function for each place of a byte, because terms are cached by the function that makes them.
 BYTES = [lambda term, at=at: z3.Extract(8 * at + 7, 8 * at, term) for at in range(64)]
 
 
@@ -62,7 +63,7 @@ def renamed(term, changes):
 
 
 def numbered(term):
-    """The term with its variables numbered from 0 on, and the numbers that they had."""
+    """The term with its variables numbered from 0 on, and the numbers that these had before."""
     used = tuple(sorted({int(it) for it in re.findall(r"byte(\d+)", term.sexpr())}))
     return renamed(term, zip(used, range(len(used)))), used
 
@@ -75,7 +76,8 @@ def made(function, operands, places):
 
 
 def apply(function, *operands):
-    """Applies a function of terms to values. The result is kept by the function, so this must be one that stays."""
+    """Applies a function of terms to values. The result is cached under the function, so pass one that exists already,
+    because a function that is made anew for each call is never found again."""
     order, places = {}, []
     for it in operands:
         places.append(tuple([order.setdefault(name, len(order)) for name in it.of]))
@@ -87,7 +89,7 @@ def apply(function, *operands):
 
 
 def bytes_of(value):
-    """The bytes of a value, the lowest first. Each of them knows the value that it is a part of."""
+    """The bytes of a value, the lowest first. Each of them refers to this value as its `whole`."""
     if value.parts is None:
         size = value.term.size() // 8
         value.parts = [apply(it, value) for it in BYTES[:size]] if size > 1 else [value]
@@ -97,7 +99,7 @@ def bytes_of(value):
 
 
 def joined(values):
-    """One value of several, the lowest first."""
+    """Joins several values into one, the lowest first."""
     whole = values[0].whole
     if whole and whole.parts == values:
         return whole
@@ -109,7 +111,7 @@ def plus(value, number):
 
 
 def is_proved(key, conditions):
-    """Whether the conditions that a function returns can never hold together. The answer is kept by the key."""
+    """Whether the conditions that a function returns can never hold together. The answer is cached under the key."""
     if key not in ANSWERS:
         terms = conditions()
         ANSWERS[key] = not may_hold(terms), terms
@@ -117,8 +119,9 @@ def is_proved(key, conditions):
 
 
 def may_hold(terms):
-    """Whether terms hold together in a model that answered another question or in a new one, or Z3 does not know it.
-    The condition that is asked for comes last and is tried first. A new solver is faster than to use one again."""
+    """Whether some terms may hold together. They do if they all hold in a model, one that answered an earlier question
+    or a new one. If Z3 does not know, the answer is True. A model evaluates the last term first, because it is the
+    condition that is asked for. A new solver for each question is faster than one that is used again."""
     for at, it in enumerate(MODELS):
         if all(z3.is_true(it.eval(term, True)) for term in reversed(terms)):
             MODELS.insert(0, MODELS.pop(at))
@@ -133,5 +136,5 @@ def may_hold(terms):
 
 
 def forget():
-    """Frees all terms that were kept. No value may be used after this."""
+    """Frees all terms that are kept. No value that was made before may be used after this."""
     MADE.clear(), ANSWERS.clear(), MODELS.clear()

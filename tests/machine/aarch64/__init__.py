@@ -1,4 +1,4 @@
-"""aarch64, called by the procedure call standard of Arm (AAPCS64). What is below the stack pointer is nobody's."""
+"""aarch64, with the procedure call standard of Arm (AAPCS64), which has no red zone below the stack pointer."""
 from ..processor import Processor
 from ..state import RETURN, STACK
 from ..values import bytes_of, unknown

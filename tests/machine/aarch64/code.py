@@ -1,5 +1,5 @@
-"""Instructions, as two programs read them: objdump, whose text is used, and Capstone. The texts of both are taken apart
-by the same patterns, which leave nothing out, and their parts must be the same."""
+"""Instructions as two programs read them: objdump, whose text is used, and Capstone. The same patterns split the texts
+of both into parts. They match each operand completely, and both texts must have the same parts."""
 import functools
 import re
 from dataclasses import dataclass
@@ -11,9 +11,9 @@ from ..code import Instruction, output
 
 LINE = re.compile(r" *([0-9a-f]+):\t([0-9a-f]{8}) +\t([^/<\n]*)", re.A)
 READER = capstone.Cs(capstone.CS_ARCH_ARM64, capstone.CS_MODE_ARM)
-# What fills space, and what stands where nothing comes.
+# Instructions that fill space, or that should not be reached.
 SPACE = re.compile(r"nop|udf\b.*|brk\b.*")
-# What Capstone writes in another way, and how objdump does.
+# What Capstone writes in another way than objdump, and how objdump writes it.
 OTHERWISE = ((r"^(b\.|.*, )lo\b", r"\1cc"), (r"^(b\.|.*, )hs\b", r"\1cs"), ("^(movz|ins) ", "mov "),
              ("^ushll (.*), #0$", r"uxtl \1"), ("^hint #0x22$", "bti c"))
 # Mnemonics whose last operand is an address.
@@ -22,15 +22,15 @@ TO = re.compile(r"b|b\.\w\w|bl|cbn?z|tbn?z|adrp?")
 
 @dataclass(frozen=True)
 class Operand:
-    """An operand of a kind that forms.py explains. General registers have names as `x0`, by which `w0` is meant too,
-    and vector registers have numbers."""
+    """An operand of a kind that forms.py explains. A general register has a name such as `x0`, which also stands for
+    `w0`, and a vector register has a number."""
     kind: str
     registers: tuple = ()
     number: int = None
 
 
 def of_list(it):
-    """Vectors in braces, all of the same lanes, with the number of a lane or without."""
+    """Vectors in braces, with or without the number of a lane."""
     each = re.findall(r"v(\d+)\.(\w+)", it[1])
     kinds, number = ",".join(kind for _, kind in each), int(it[2], 0) if it[2] else None
     return Operand(f"{{{kinds}}}{'[]' * bool(it[2])}", tuple(int(at) for at, _ in each), number)
@@ -68,7 +68,7 @@ def operand(text):
 def parts(text):
     """The mnemonic and the operands of a text."""
     name, _, rest = text.partition(" ")
-    # A comma in brackets or braces separates no operands.
+    # A comma in brackets or braces does not separate operands.
     words = re.split(r", (?![^\[{]*[\]}])", rest) if rest else []
     to = [Operand("to", (), int(words.pop().removeprefix("#"), 16))] if TO.fullmatch(name) else []
     return name, (*map(operand, words), *to)
@@ -86,7 +86,7 @@ def is_space(text):
 
 @functools.lru_cache(None)
 def instruction(at, code, text):
-    """The instruction at an address, if two programs read it alike."""
+    """The instruction at an address. It is refused if two programs do not read it alike."""
     found = next(READER.disasm(code, at, 1), None)
     other = f"{found.mnemonic} {found.op_str}".strip() if found else ""
     for pattern, instead in OTHERWISE:

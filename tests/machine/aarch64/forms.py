@@ -1,12 +1,12 @@
 """The forms of instructions that have a model: for each mnemonic which operands it may have. An instruction of another
 form is refused.
 
-A row of TEXT: mnemonics, kinds, and forms. `R` stands for each of the kinds. An operand is `x` or `w` for a general
-register of 64 or 32 bits, `sp`, a scalar `b`, `h`, `s`, `d` or `q` of 1 to 16 bytes, a vector by its lanes such as
-`16b`, one lane such as `b[]`, vectors in braces, `i` for a number, `c` for a condition, `to` for an address, or the
-name of a shift or an extension. Memory is `m` if its address is a base and a distance, and a number that follows is
-added to the base afterwards, `m!` if the base becomes the address, and `mx` if a base has an index, which may be
-shifted."""
+A row of TEXT has mnemonics, kinds, and forms, in which `R` stands for each of the kinds. An operand is `x` or `w` for a
+general register of 64 or 32 bits, `sp`, a scalar `b`, `h`, `s`, `d` or `q` of 1 to 16 bytes, a vector by its lanes such
+as `16b`, one lane such as `b[]`, vectors in braces, `i` for a number, `c` for a condition, `to` for an address, or the
+name of a shift or an extension. Memory at a base and a distance is `m`, and a number that follows it is added to the
+base after the access. Memory is `m!` if the base becomes the address before the access, and `mx` if an index is added
+to the base, which may be shifted."""
 from collections import defaultdict
 
 TEXT = """
@@ -80,6 +80,6 @@ FORMS = read()
 
 
 def level_of(instruction):
-    """Each processor has all these forms, so the level is 1, or None if the form is not listed."""
+    """The level 1, which each processor has, or None if the form of an instruction is not listed."""
     form = ",".join(it.kind for it in instruction.operands) or "-"
     return 1 if form in FORMS.get(instruction.name, ()) else None

@@ -1,6 +1,6 @@
-"""The effect of each instruction, for symbolic execution. The tables map a mnemonic to a function of a Step of
-operands.py, which performs the instruction if it has one of the forms of forms.py. Flags have the names of terms.py,
-where Arm has NZCV. The carry of a difference says that nothing was borrowed."""
+"""The effect of each instruction, for symbolic execution. The tables map a mnemonic to a function that performs the
+instruction on a Step of operands.py. The instruction must have one of the forms of forms.py. Flags have the names of
+terms.py in place of Arm's N, Z, C and V. After a subtraction, the carry is set if nothing was borrowed."""
 import operator
 from functools import partial
 
@@ -32,24 +32,24 @@ def quotient(a, b):
 
 
 def select_bits(mask, a, b):
-    """Each bit of the first of two values whose bit in a mask is set, and the others of the second."""
+    """Takes each bit from the first of two values if its bit in a mask is set, and otherwise from the second."""
     return a & mask | b & ~mask
 
 
 def looked_up(control, *table):
-    """The byte of a table that a control byte names, or 0 if there is none."""
+    """The byte of a table that a control byte selects, or 0 if the table is too short."""
     return If(ULT(control, len(table)), chosen(control, *table), BitVecVal(0, 8))
 
 
 IS_CLEAR = [lambda term, at=at: Extract(at, at, term) == 0 for at in range(64)]
 SHIFTS = {"lsl": operator.lshift, "lsr": LShR, "asr": operator.rshift}
-# The result, the carry flag and the overflow flag of two operands.
+# Functions of two operands that give the result, the carry flag and the overflow flag.
 ARITHMETIC = {
     "add": (operator.add, carry_of_sum, overflow_of_sum), "sub": (operator.sub, UGE, overflow_of_difference),
     "and": (operator.and_, never, never), "orr": (operator.or_, never, never), "eor": (operator.xor, never, never),
     "bic": (first_and_not, never, never),
 }
-# For two vectors, lane by lane.
+# Instructions that combine two vectors lane by lane, with the function of two lanes.
 LANES = {name: ARITHMETIC[name][0] for name in ("add", "sub", "and", "orr", "eor")}
 LANES |= {"mul": operator.mul, "umin": lesser, "uqsub": saturated_difference, "uaddw": operator.add,
           "usubw": operator.sub}
@@ -58,7 +58,7 @@ CONDITIONS = {"eq": (And, "z"), "cs": (And, "c"), "mi": (And, "s"), "lt": (Xor, 
               "ls": (lambda carry, zero: Or(Not(carry), zero), "cz"),
               "le": (lambda zero, sign, overflow: Or(zero, Xor(sign, overflow)), "zso")}
 OPPOSITES = {"ne": "eq", "cc": "cs", "pl": "mi", "ge": "lt", "hi": "ls", "gt": "le"}
-# For each condition the one that holds if it does not.
+# Each condition with its opposite.
 OPPOSITE = OPPOSITES | {other: it for it, other in OPPOSITES.items()}
 CONDITIONS |= OPPOSITES
 
@@ -77,8 +77,8 @@ def set_flags(name, step, a, b):
 
 
 def divide(step):
-    """How long a division takes depends on its operands, so these must be public. Z3 is slow with divisions by what is
-    not known."""
+    """udiv. Its time depends on the operands, so these must be public. Z3 is slow with divisions by unknown numbers, so
+    a quotient that is known to be 0 is not computed."""
     a, b = step.get(1), step.get(2)
     if a.of or b.of:
         raise Refused("a division of what depends on the bytes")
@@ -86,7 +86,7 @@ def divide(step):
 
 
 def move_bits(is_left, is_kept, step):
-    """Moves bits of the second operand from a place or to it. The other bits of the result are kept, or are zero."""
+    """Moves bits of the second operand up to a place or down from it. The other bits are kept, or are zero."""
     at, count = step.number(2), step.number(3)
     value = apply(operator.lshift if is_left else LShR, step.get(1), step.constant(at))
     mask = step.constant(2**count - 1 << at * is_left)
@@ -127,7 +127,7 @@ def repeated(number, size, count):
 
 
 def lanewise(function, step):
-    """Combines two vectors, of which the second may be one lane for all, or may have lanes of half the size."""
+    """Combines two vectors. The second may be one lane that is used for all, or may have lanes of half the size."""
     second, size = step.bytes(2), step.lane()
     if step.lane(2) < size:
         second = alternated(size // 2, second, [ZERO] * len(second))
@@ -140,19 +140,19 @@ def clear_bits(step):
 
 
 def shift_lanes(step):
-    """ushr, and shrn or xtn, which write the lower half of each lane, after a shift if there is one."""
+    """ushr shifts each lane. xtn writes only the lower half of each lane, and shrn does so after a shift."""
     size, values = step.lane(1), step.bytes(1)
     shifted = by_lanes(LShR, size, values, repeated(step.number(2) if step.has(2) else 0, size, len(values)))
     return [byte for lane in lanes_of(shifted, size) for byte in lane[:step.lane()]]
 
 
 def every_other(begin, step):
-    """uzp: of the lanes of two vectors every other one."""
+    """uzp1 and uzp2: every other lane of two vectors."""
     return [byte for lane in lanes_of(step.bytes(1) + step.bytes(2), step.lane())[begin::2] for byte in lane]
 
 
 def alternate(is_upper, step):
-    """zip: alternates the lanes of one half of two vectors."""
+    """zip1 and zip2: alternates the lanes of the lower or upper halves of two vectors."""
     half = step.size() // 2
     return alternated(step.lane(), *[step.bytes(at)[half * is_upper:][:half] for at in (1, 2)])
 
@@ -167,7 +167,7 @@ def look_up(step):
 
 
 def select(mask, others, step):
-    """Selects bits of the second operand by those of another one, and the rest of a third one."""
+    """bit and bsl: takes each bit from the second operand if its bit in the mask is set, otherwise from another one."""
     return [apply(select_bits, *it) for it in zip(step.bytes(mask), step.bytes(1), step.bytes(others))]
 
 
@@ -185,14 +185,14 @@ VECTORS = {
 }
 
 
-# Other instructions, which do all that they do to the state themselves.
+# Other instructions. Their functions change the state themselves.
 
 def compare(name, step):
     set_flags(name, step, step.get(0), step.get(1))
 
 
 def compare_if(step):
-    """ccmp: compares if a condition holds, otherwise a number says what the flags are."""
+    """ccmp: compares if a condition holds. Otherwise the bits of a number become the flags."""
     holds, number = step.condition(3).term, step.number(2)
     if z3.is_true(holds):
         compare("sub", step)
@@ -230,7 +230,7 @@ def store_alternating(step):
 
 OTHERS = {
     "cmp": partial(compare, "sub"), "cmn": partial(compare, "add"), "tst": partial(compare, "and"), "ccmp": compare_if,
-    # Where a call by a register may land, which no call here does.
+    # `bti` only marks where a call by a register may land. No instruction with a model calls so.
     **dict.fromkeys(("nop", "bti"), lambda step: None),
     **dict.fromkeys(("ldr", "ldur", "ld1"), partial(load, None, 1)), "ldp": partial(load, None, 2),
     **dict.fromkeys(("ldrb", "ldurb"), partial(load, 1, 1)), **dict.fromkeys(("ldrh", "ldurh"), partial(load, 2, 1)),

@@ -1,4 +1,4 @@
-"""An instruction that is executed: how it reads and writes its operands."""
+"""The execution of an instruction, and how it reads and writes its operands."""
 import operator
 
 from z3 import Not
@@ -16,8 +16,8 @@ def indexed(base, index, shift):
 
 
 class Step:
-    """An instruction and the state that executes it. An operand is named by its place among the operands, of which the
-    one that is written comes first."""
+    """An instruction and the state on which it is executed. An operand is named by its place among the operands, where
+    a register that receives a result comes first."""
 
     def __init__(self, machine, state, instruction):
         self.machine, self.state, self.name = machine, state, instruction.name
@@ -30,7 +30,7 @@ class Step:
         return self.operands[at].number
 
     def size(self, at=0):
-        """How many bytes a register has, or the lane of it that is named."""
+        """How many bytes the register of an operand has, or the lane of it that the operand names."""
         kind = self.operands[at].kind.strip("{}[]").split(",")[0]
         return SIZES[kind] if kind in SIZES else int(kind[:-1]) * SIZES[kind[-1]]
 
@@ -46,7 +46,7 @@ class Step:
         return constant(number % 2**(8 * self.size()), self.size())
 
     def bytes(self, at):
-        """The bytes of a register, or of its lane that is named."""
+        """The bytes of a register, or of the lane of it that the operand names."""
         name, size = self.operands[at].registers[0], self.size(at)
         if type(name) is str:
             return [ZERO] * size if name == "xzr" else bytes_of(self.state.registers[name])[:size]
@@ -65,7 +65,8 @@ class Step:
         return joined(value)
 
     def write(self, values, at=0):
-        """Writes bytes. If these belong to a lane, the others are kept. Otherwise the bytes above become zero."""
+        """Writes bytes to a register. If they belong to one lane, the other lanes are kept. Otherwise the bytes above
+        become zero."""
         it = self.operands[at]
         name, begin = it.registers[0], len(values) * (it.number or 0)
         if type(name) is int:
@@ -83,9 +84,9 @@ class Step:
         return self.machine.decided(self.state, condition(self.state.flags, CONDITIONS, self.operands[at].registers[0]))
 
     def address(self, at):
-        """The address of an access. If the base register is updated first (`m!`), that happens here, so that a stack
-        frame exists before it is written. What a processor does if it also loads or stores that base is not defined,
-        nor if it loads a register twice."""
+        """The address of an access. A base that becomes the address (`m!`) is updated here, so that a stack frame
+        exists before it is written. The architecture does not define what happens if an instruction that updates the
+        base also loads or stores this base, or if it loads a register twice. So both are refused."""
         it, others = self.operands[at], [name for each in self.operands[:at] for name in each.registers]
         name, *index = it.registers
         if name in others and (it.kind == "m!" or self.has(at + 1)) or self.name == "ldp" and len({*others}) < 2:
@@ -98,13 +99,13 @@ class Step:
         return address
 
     def moves_base(self, at):
-        """After an access: adds the number behind the memory to its base, if there is one."""
+        """Adds the number after the memory operand, if there is one, to the base. It is called after the access."""
         if self.has(at + 1):
             name = self.operands[at].registers[0]
             self.set_register(name, plus(self.state.registers[name], self.number(at + 1)))
 
     def branch(self):
-        """The condition of a branch, what it compares with zero, and the names of the condition and its opposite."""
+        """The condition of a branch, the value that it compares with zero, and the names of it and its opposite."""
         if self.name[0] == "b":
             name, zero = self.name[2:], self.state.flags["z"]
             return condition(self.state.flags, CONDITIONS, name), zero and zero[1], (name, OPPOSITE[name])

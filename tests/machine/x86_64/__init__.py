@@ -1,4 +1,4 @@
-"""x86-64, called by the convention of System V."""
+"""x86-64, with the calling convention of System V."""
 from ..processor import Processor
 from ..state import RETURN, STACK
 from ..values import bytes_of, unknown

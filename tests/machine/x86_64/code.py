@@ -1,6 +1,6 @@
-"""Instructions, as two programs read them: objdump, whose text is used, and Capstone, which must read the same.
-Capstone 4 does not know AVX-512, whose instructions are encoded by EVEX or have masks. So `as` assembles such an
-instruction again, and must make the same bytes."""
+"""Instructions as two programs read them: objdump, whose text is used, and Capstone, which must read the same. Capstone
+4 does not know AVX-512, whose instructions are encoded by EVEX or use mask registers. For such an instruction, `as`
+assembles the text of objdump again, and must make the same bytes."""
 import functools
 import re
 import subprocess
@@ -25,7 +25,7 @@ EVEX = 0x62
 # The names of each register, for 8, 4, 2 and 1 of its bytes.
 NAMED = [[f"r{at}{end}" for end in ("", "d", "w", "b")] for at in range(8, 16)]
 NAMED += [["r" + it, "e" + it, it, it.strip("x") + "l"] for it in ("ax", "cx", "dx", "bx", "sp", "bp", "si", "di")]
-# By each name, the register and how many of its bytes it means.
+# For each name, the register that it belongs to, and how many bytes of the register it means.
 REGISTERS = {name: (it[0], size) for it in NAMED for name, size in zip(it, (8, 4, 2, 1))}
 READER = capstone.Cs(capstone.CS_ARCH_X86, capstone.CS_MODE_64)
 READER.detail = True
@@ -33,8 +33,8 @@ READER.detail = True
 
 @dataclass(frozen=True)
 class Operand:
-    """An operand of so many bytes: a register by its name, a number, or memory, whose address is a base, an index times
-    a scale, and a distance. `is_repeated` says that memory has one lane, which stands for all lanes."""
+    """An operand of so many bytes: a register by its name, a number, or memory. The address of memory is a base, an
+    index times a scale, and a distance. `is_repeated` says that memory holds one lane that stands for all lanes."""
     size: int = None
     register: str = None
     number: int = None
@@ -63,7 +63,7 @@ def operand(text):
         raise Refused("it reads what the thread has, as a stack protector does, which calls another function")
     if not re.fullmatch(r"[a-z]+\d*[bwd]?", text):
         raise Refused(f"an operand that is not known: {text}")
-    # Of a mask the size does not matter.
+    # The size of a mask register does not matter.
     return Operand(VECTORS.get(text[:3]) or REGISTERS.get(text, (text, 8))[1], register=text)
 
 
@@ -74,13 +74,13 @@ def texts(path):
 
 
 def is_space(text):
-    """Whether an instruction only fills space, or nothing comes there."""
+    """Whether an instruction only fills space, or should not be reached."""
     return bool(NOP.fullmatch(text)) or text in ("int3", "ud2")
 
 
 @functools.lru_cache(None)
 def instruction(at, code, text):
-    """The instruction at an address, if two programs read it alike."""
+    """The instruction at an address. It is refused if two programs do not read it alike."""
     if NOP.fullmatch(text):
         return Instruction(at, at + len(code), code, text, "nop", ())
     name, _, rest = text.partition(" ")
@@ -96,8 +96,8 @@ def is_wide(read):
 
 
 def compare(read):
-    """Refuses an instruction that Capstone reads in another way. It does not know vbroadcasti128, so it is given
-    vbroadcastf128, which does the same."""
+    """Refuses an instruction that Capstone reads in another way. Capstone does not know vbroadcasti128, so it gets the
+    code of vbroadcastf128, which does the same."""
     code, name = read.code, read.name
     if name == "vbroadcasti128":
         code, name = code[:3] + b"\x1a" + code[4:], "vbroadcastf128"
@@ -122,14 +122,14 @@ def of_capstone(found, it):
 
 
 def comparable(it, bits):
-    """What of an operand must be the same. Numbers are those of so many bits."""
+    """The parts of an operand on which both programs must agree. A number counts modulo 2 to the power of `bits`."""
     *parts, distance = it.address or [None]
     where = it.size if it.address else None, *parts, distance and distance % 2**64
     return it.register, where, None if it.number is None else it.number % 2**bits
 
 
 def assembles(reads):
-    """Refuses instructions of AVX-512 if `as` does not make the same bytes of their text."""
+    """Refuses instructions of AVX-512 if `as` does not make the same bytes of their texts."""
     reads = [it for it in reads if is_wide(it)]
     with tempfile.TemporaryDirectory() as folder:
         made, lines = Path(folder) / "made", [f"{'{evex} ' * (it.code[0] == EVEX)}{it.text}\n" for it in reads]

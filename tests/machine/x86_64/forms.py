@@ -1,12 +1,13 @@
-"""The forms of instructions that have a model: for each mnemonic the level of x86-64 that has it, and which operands it
-may have. An instruction of another form is refused, and test_machine.py runs each form on the processor.
+"""The forms of instructions that have a model. For each mnemonic they give the lowest level of x86-64 that has it, and
+which operands it may have. An instruction of another form is refused. test_machine.py runs each form on the processor.
 
-A row of TEXT: a level, mnemonics, sizes, and forms, each with its operands in the order of Intel. An operand is `r` or
-`m` with a number of bytes for a register or memory, `x`, `y` or `z` for a vector of 16, 32 or 64 bytes, `k` for a mask,
-`b` with a number of bytes for memory that is repeated in all lanes, or `i` for a number. `R`, `M`, `V` and `B` stand
-for a register, memory, a vector and repeated memory of each of the sizes, `E` for R or M, `W` for V or M, and `H` for a
-vector or memory of half the size. Where mnemonics have an `(v)`, an instruction of SSE has the first size, and names an
-operand once that stands twice at the beginning. What is encoded by EVEX has the level 4 at least."""
+A row of TEXT has a level, mnemonics, sizes, and forms. A form lists the operands in the order of Intel. An operand is
+`r` or `m` with a number of bytes for a register or memory, `x`, `y` or `z` for a vector of 16, 32 or 64 bytes, `k` for
+a mask, `b` with a number of bytes for memory that is repeated in all lanes, or `i` for a number. `B4` and `B8` mean
+`b4` and `b8`. Other capital letters stand for operands of each of the row's sizes: `R` for a register, `M` for memory,
+`V` for a vector, `E` for R or M, `W` for V or M, and `H` for a vector or memory of half the size. A mnemonic with `(v)`
+is one of SSE and of AVX. That of SSE has only the first size, and where a form begins with the same operand twice, it
+names this operand once. An instruction that is encoded by EVEX has at least level 4."""
 import itertools
 import re
 from collections import defaultdict
@@ -94,7 +95,7 @@ def expanded(patterns, sizes):
 
 
 def read():
-    """By each mnemonic its forms, each with the level that has it."""
+    """The forms of each mnemonic, each with the lowest level that has it."""
     found = defaultdict(dict)
     for line in TEXT.strip().splitlines():
         level, names, sizes, patterns = line.split(" | ")
@@ -120,7 +121,7 @@ def kind_of(operand):
 
 
 def level_of(instruction):
-    """The level of x86-64 that has an instruction, or None if the instruction has no model."""
+    """The lowest level of x86-64 that has an instruction, or None if the instruction has no model."""
     form = ",".join(map(kind_of, instruction.operands))
     found = FORMS.get(instruction.name, {}).get(form)
     return found and max(found, LEVEL_OF_EVEX if instruction.code[0] == EVEX else 0)

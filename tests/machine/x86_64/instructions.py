@@ -1,6 +1,6 @@
 """The effect of each instruction, for symbolic execution. TABLE maps a mnemonic, without the v of AVX, to a function
-that performs the instruction on a Step of operands.py, if it has one of the forms of forms.py. test_machine.py runs
-each of them on the processor too, and compares the results."""
+that performs the instruction on a Step of operands.py. The instruction must have one of the forms of forms.py.
+test_machine.py runs each instruction on the processor too, and compares the results."""
 import operator
 from functools import partial
 
@@ -15,7 +15,7 @@ from ..values import Value, apply, bytes_of, concat, constant, joined
 # Functions from terms to terms, as in terms.py.
 
 def have_common_bit(a, b):
-    """The bit 1 if some bit is set in both, otherwise 0."""
+    """The bit 1 if some bit is set in both terms, otherwise 0."""
     return If(a & b != 0, BitVecVal(1, 1), BitVecVal(0, 1))
 
 
@@ -25,13 +25,13 @@ def saturate_word(word):
 
 
 def shuffle_byte(control, *lane):
-    """The one of 16 bytes that the lowest four bits of a control byte name, or 0 if its highest bit is set."""
+    """The byte of 16 that the lowest four bits of a control byte select, or 0 if the highest bit of this is set."""
     return If(control < 0, BitVecVal(0, 8), chosen(control, *lane))
 
 
 def ternary_logic(number, a, b, c):
-    """Combines three bytes bit by bit. For each of the eight ways that the three bits can be, a bit of the number says
-    what the result is."""
+    """Combines three bytes bit by bit. Three bits can be combined in eight ways, and for each of them one bit of the
+    number is the result."""
     result = BitVecVal(0, 8)
     for way in range(8):
         is_way = (a if way & 4 else ~a) & (b if way & 2 else ~b) & (c if way & 1 else ~c)
@@ -48,7 +48,7 @@ def add_with_carry(a, b, carry):
 
 
 def carry_with_carry(a, b, carry):
-    """The carry of a sum of three: that of the sum of two with one more bit."""
+    """The carry of two terms and a carry: the highest bit of their sum if it is computed with one more bit."""
     return Extract(a.size(), a.size(), add_with_carry(ZeroExt(1, a), ZeroExt(1, b), carry)) == 1
 
 
@@ -56,7 +56,7 @@ def overflow_with_carry(a, b, carry):
     return (~(a ^ b) & (a ^ add_with_carry(a, b, carry))) < 0
 
 
-# The result, the carry flag and the overflow flag of two operands, and of the carry flag for `adc`.
+# Functions of two operands, and for `adc` also of the carry flag, that give the result, the carry and the overflow.
 ARITHMETIC = {
     "add": (operator.add, carry_of_sum, overflow_of_sum), "sub": (operator.sub, ULT, overflow_of_difference),
     "and": (operator.and_, never, never), "andn": (bits_and_not, never, never),
@@ -67,17 +67,17 @@ ARITHMETIC = {
 CONDITIONS = {"b": (And, "c"), "e": (And, "z"), "be": (Or, "cz"), "s": (And, "s"), "l": (Xor, "so"),
               "le": (lambda zero, sign, overflow: Or(zero, Xor(sign, overflow)), "zso")}
 OPPOSITES = {"ae": "b", "ne": "e", "a": "be", "ns": "s", "ge": "l", "g": "le"}
-# For each condition the one that holds if it does not.
+# Each condition with its opposite.
 OPPOSITE = OPPOSITES | {other: it for it, other in OPPOSITES.items()}
 CONDITIONS |= OPPOSITES
-# For two vectors, lane by lane: the bytes of a lane, and the function.
+# Instructions that combine two vectors lane by lane: how many bytes a lane has, and the function of two lanes.
 LANES = {
     "paddb": (1, operator.add), "psubb": (1, operator.sub), "paddw": (2, operator.add), "pmullw": (2, operator.mul),
     "paddusb": (1, lambda a, b: If(ULT(a + b, a), BitVecVal(255, 8), a + b)),
     "psubusb": (1, saturated_difference), "pminub": (1, lesser), "pmaxub": (1, lambda a, b: If(ULT(a, b), b, a)),
     "por": (1, operator.or_), "pand": (1, operator.and_), "pxor": (1, operator.xor), "xorps": (1, operator.xor),
 }
-# AVX-512 has a name for each size of a lane that a mask would be for. Without a mask they do the same.
+# AVX-512 has a name for each size of lanes, because masks select lanes. Without a mask, the sizes make no difference.
 LANES |= {name + size: LANES[name] for name in ("pand", "por", "pxor") for size in "dq"}
 
 
@@ -117,13 +117,13 @@ def shuffle_bytes(values, controls):
 
 
 def unpack(size, begin, a, b):
-    """Alternates lanes of so many bytes of two vectors, from the eight bytes that begin there."""
+    """Alternates the lanes of two vectors, which have `size` bytes each, out of the eight bytes from `begin` on."""
     return alternated(size, a[begin:begin + 8], b[begin:begin + 8])
 
 
 def shuffle_lanes(size, step):
-    """Fills each of four lanes of so many bytes with one of the four that two bits of a number name. The bytes after
-    these lanes are copied."""
+    """Fills each of four lanes with the one of these four that two bits of a number select. The bytes after the four
+    lanes are copied."""
     for it in lanes_of(step.bytes(1, step.width), max(16, 4 * size)):
         lanes = lanes_of(it, size)
         chosen = [lanes[step.number(-1) >> 2 * at & 3] for at in range(4)]
@@ -131,40 +131,40 @@ def shuffle_lanes(size, step):
 
 
 def choose_halves(step):
-    """perm2i128: two bits of a number choose each half, or another bit makes it zero."""
+    """perm2i128: for each half, two bits of a number select one of four halves, or another bit makes it zero."""
     halves = lanes_of(step.bytes(1, 32) + step.bytes(2, 32), 16)
     return [byte for at in (0, 4) for byte in ([ZERO] * 16 if step.number(3) >> at & 8 else
                                                halves[step.number(3) >> at & 3])]
 
 
 def extract(size, step):
-    """The lane that the lowest bits of a number name."""
+    """The lane that the lowest bits of a number select."""
     lanes = lanes_of(step.bytes(1, max(16, 2 * size)), size)
     return lanes[step.number(2) % len(lanes)]
 
 
 def insert(size, step):
-    """The vector with other bytes in the lane that the lowest bits of a number name."""
+    """The vector with other bytes in the lane that the lowest bits of a number select."""
     values = step.bytes(-3, max(16, 2 * size))
     at = size * step.number(-1) % len(values)
     return values[:at] + step.bytes(-2, size) + values[at + size:]
 
 
 def blend(step):
-    """pblendd: each lane of four bytes of the second vector whose bit in a number is set, the others of the first."""
+    """pblendd: takes a lane of four bytes from the second vector if its bit in a number is set, else from the first."""
     first, second = (lanes_of(step.bytes(at, step.width), 4) for at in (1, 2))
     return [it for at, both in enumerate(zip(first, second)) for it in both[step.number(3) >> at & 1]]
 
 
 def combine_three(step):
-    """pternlogq: the vector that is written is also the first that is read."""
+    """pternlogd and pternlogq: the vector that is written is also the first one that is read."""
     number, vectors = constant(step.number(3), 1), [step.bytes(at, step.width) for at in range(3)]
     return [apply(ternary_logic, number, *it) for it in zip(*vectors)]
 
 
 def choose_lanes(size, controls, vectors, step):
-    """vperm: lanes of so many bytes out of the operands at the places `vectors`. The lowest bits of the lanes of the
-    operand at the place `controls` name them."""
+    """vperm: selects lanes of so many bytes from the operands at the places `vectors`. The operand at the place
+    `controls` has a lane for each, whose lowest bits say which lane is taken."""
     lanes = lanes_of([byte for at in vectors for byte in step.bytes(at, step.width)], size)
     for it in map(joined, lanes_of(step.bytes(controls, step.width), size)):
         if it.number is None:
@@ -174,29 +174,29 @@ def choose_lanes(size, controls, vectors, step):
 
 
 def choose_quarters(step):
-    """shufi64x2: lanes of 16 bytes, the lower half from one vector and the upper half from another one."""
+    """shufi64x2: selects lanes of 16 bytes, the lower half from one vector and the upper half from another one."""
     first, second = (lanes_of(step.bytes(it, step.width), 16) for it in (1, 2))
     half = bits = len(first) // 2
     for at, lanes in enumerate(half * [first] + half * [second]):
         yield from lanes[step.number(3) >> bits * at & len(lanes) - 1]
 
 
-# Other instructions, which do all that they do to the state themselves.
+# Other instructions. Their functions change the state themselves.
 
 def write_result(function, step):
     step.write(list(function(step)))
 
 
 def set_with_flags(step, value, carry, overflow, is_kept=True):
-    """Sets the flags, of which those for zero and the sign follow from the result, and writes it if it is kept."""
+    """Sets the flags, and writes the result if it is kept. The flags for zero and the sign follow from the result."""
     step.state.flags.update(z=(are_all_zero, value), s=(is_negative, value), c=carry, o=overflow)
     if is_kept:
         step.set(value)
 
 
 def arithmetic(name, step, is_kept=True, counts=False, negates=False):
-    """Sets the flags. `cmp` and `test` do not keep the result. `inc` and `dec` count by one and leave the carry. `neg`
-    subtracts from zero."""
+    """Does arithmetic and sets the flags. `cmp` and `test` do not keep the result. `inc` and `dec` add or subtract 1
+    and keep the carry flag. `neg` subtracts from zero."""
     result, carry, overflow = ARITHMETIC[name]
     first = int(name == "andn")
     a = constant(0, step.size(0)) if negates else step.get(first)
@@ -213,13 +213,13 @@ def multiply(step):
 
 
 def divide(step):
-    """div: a number in rdx and rax, or in edx and eax, is divided by an operand. All of them must be public, and the
-    upper half of the number must be zero, so that the quotient has room."""
+    """div: divides the number in rdx and rax, or in edx and eax, by an operand. All of them must be public. The upper
+    half of the number must be zero, so that the quotient fits into a register."""
     size, divisor, is_shown = step.size(0), step.get(0), partial(step.machine.is_shown, step.state)
     low, high = (joined(bytes_of(step.state.registers[it])[:size]) for it in ("rax", "rdx"))
     if low.of or high.of or divisor.of or not is_shown(And(high.term == 0, divisor.term != 0)):
         raise Refused("a division that may trap")
-    # Z3 is slow with divisions by what is not known.
+    # Z3 is slow with divisions by unknown numbers, so a quotient that is known to be 0 is not computed.
     is_less = is_shown(ULT(low.term, divisor.term))
     quotient, rest = (constant(0, size), low) if is_less else (apply(it, low, divisor) for it in (UDiv, URem))
     step.write_register("rax" if size == 8 else "eax", bytes_of(quotient))
@@ -233,14 +233,14 @@ def leave(step):
 
 
 def keep_low_bits(step):
-    """bzhi: keeps as many of the lowest bits as a byte says, whose value must be known."""
+    """bzhi: keeps as many of the lowest bits as a byte says. The value of this byte must be known."""
     count, value, bits = step.bytes(2, 1)[0].number, step.get(1), 8 * step.size(0)
     value = apply(operator.and_, value, constant(2**min(count, bits) - 1, bits // 8))
     set_with_flags(step, value, (partial(BoolVal, count >= bits),), (never,))
 
 
 def shift(function, step):
-    """A shift by a number, of which the processor takes the lowest bits. Carry and overflow are not modelled."""
+    """A shift by the lowest bits of a number, as the processor does it. Carry and overflow have no model."""
     count = step.number(1) & (63 if step.size(0) == 8 else 31)
     value = apply(function, step.get(0), constant(count, step.size(0)))
     if count:
@@ -250,7 +250,7 @@ def shift(function, step):
 
 
 def choose_if(name, step):
-    """cmovCC: the second operand if the condition holds, otherwise the first. setCC: the byte 1 or 0."""
+    """cmovCC gives the second operand if the condition holds, otherwise the first. setCC gives the byte 1 or 0."""
     holds, is_move = step.condition(name), len(step.operands) == 2
     step.set(apply(If, holds, *((step.get(1), step.get(0)) if is_move else (constant(1, 1), ZERO))))
 
@@ -261,33 +261,33 @@ def zero_upper(step):
 
 
 def test_lanes(step):
-    """ptestmd: each bit of the mask says whether two lanes have a bit in common. The bits above are zero."""
+    """ptestmd: each bit of the mask says whether two lanes have a set bit in common. The bits above are zero."""
     both = zip(*[lanes_of(step.bytes(at, step.width), 4) for at in (1, 2)])
     bits = [apply(have_common_bit, joined(a), joined(b)) for a, b in both]
     step.state.masks[step.operands[0].register] = bits + [Value(BitVecVal(0, 1))] * (64 - len(bits))
 
 
 def test_masks(step):
-    """kortestw: zero if the first bits of two masks have none set, carry if each bit is set in one of them."""
+    """kortestw: sets z if the lowest 16 bits of both masks are 0, and c if each of these bits is set in one of them."""
     bits = [apply(operator.or_, *both) for both in zip(*[step.state.masks[it.register][:16] for it in step.operands])]
     step.state.flags.update(z=(are_all_zero, *bits), c=(are_all_one, *bits), s=(never,), o=(never,))
 
 
 def test_bits(step):
-    """ptest: zero if the first `and` the second is 0, carry if `not` the first `and` the second is 0."""
+    """ptest: sets z if both vectors have no set bit in common, and c if each bit of the second is set in the first."""
     both = list(zip(step.bytes(0, step.width), step.bytes(1, step.width)))
     common, only_second = ([apply(it, a, b) for a, b in both] for it in (operator.and_, bits_and_not))
     step.state.flags.update(z=(are_all_zero, *common), c=(are_all_zero, *only_second), s=(never,), o=(never,))
 
 
-# Instructions that differ by the size of their lanes: their names, the function, and the size of each.
+# Instructions that differ by the size of their lanes: their names, their function, and the size of each.
 SIZED = (
     ("pinsrb pinsrw pinsrd inserti128 inserti64x4", insert, (1, 2, 4, 16, 32)),
     ("pextrb pextrw pextrd pextrq extracti128", extract, (1, 2, 4, 8, 16)),
     ("pbroadcastb pbroadcastw pbroadcastd pbroadcastq broadcasti128 broadcasti32x4", broadcast, (1, 2, 4, 8, 16, 16)),
     ("movd movq", move_low, (4, 8)), ("pshuflw pshufd permq", shuffle_lanes, (2, 4, 8)),
 )
-# For choose_lanes: the size of a lane, where the control is, and the vectors.
+# The arguments of choose_lanes: the size of a lane, the place of the controls, and the places of the vectors.
 CHOSEN = {"permb": (1, 1, (2,)), "permi2b": (1, 0, (1, 2)), "permi2q": (8, 0, (1, 2)), "permt2b": (1, 1, (0, 2)),
           "permt2q": (8, 1, (0, 2))}
 HALVES = {"pshufb": shuffle_bytes, "punpcklbw": partial(unpack, 1, 0), "punpckhbw": partial(unpack, 1, 8),

@@ -1,4 +1,4 @@
-"""An instruction that is executed: how it reads and writes its operands."""
+"""The execution of an instruction, and how it reads and writes its operands."""
 from .. import Refused
 from ..state import NONE, STACK
 from ..terms import ZERO, condition
@@ -12,8 +12,8 @@ def address_of(base, index, scale, distance):
 
 
 class Step:
-    """An instruction and the state that executes it. An operand is named by its place among the operands, as Intel
-    orders them: the one that is written comes first."""
+    """An instruction and the state on which it is executed. An operand is named by its place among the operands in the
+    order of Intel, where the one that is written comes first."""
 
     def __init__(self, machine, state, instruction):
         self.machine, self.state, self.instruction = machine, state, instruction
@@ -59,8 +59,8 @@ class Step:
         return whole[:count]
 
     def write(self, values):
-        """Writes the first operand. In a register the bytes above become zero if four bytes are written, in a vector if
-        the instruction is of AVX. Otherwise they are kept."""
+        """Writes the first operand. The bytes above become zero in a register of which four bytes are written, and in
+        the vector of an instruction of AVX. Otherwise they are kept."""
         if self.operands[0].address:
             self.is_aligned(0, len(values))
             self.machine.store(self.state, self.address(0), values)
@@ -85,17 +85,17 @@ class Step:
         self.write(bytes_of(value))
 
     def sources(self):
-        """The two vectors that are combined. With AVX they come after the one that is written. With SSE this is one."""
+        """The two vectors that are combined. AVX has them after the vector that is written. SSE writes the first."""
         return self.bytes(self.is_vex, self.width), self.bytes(1 + self.is_vex, self.width)
 
     def is_aligned(self, at, count):
-        """Refuses an address that is not known to be aligned, where the instruction requires this: SSE and movdqa do,
-        for whole vectors. At the beginning the stack pointer is 8 bytes above an aligned address."""
+        """Refuses an address that is not known to be aligned, if the instruction requires that. An instruction of SSE,
+        movdqa and movaps require it for whole vectors. The first stack pointer is 8 bytes above an aligned address."""
         is_asked = self.name.startswith(("movdqa", "movaps")) or \
             not self.is_vex and self.name not in ("movdqu", "movups")
         if count >= 16 and is_asked:
             base, distance = self.machine.place(self.address(at))
-            # The stack is known to be aligned to 16 bytes, and to no more. A file is loaded at the begin of a page.
+            # The stack is only known to be aligned to 16 bytes. A file is loaded at the beginning of a page.
             is_known = base is self.machine.image.base or base is STACK and count == 16
             if not is_known or (distance + 8 * (base is STACK)) % count:
                 raise Refused("not aligned")
