@@ -1,5 +1,6 @@
 //! Runs in which an allocation, a read or a write fails.
 
+use crate::ends;
 use crate::run::Room::*;
 use crate::run::{EVEN, End, Run, Runs, fhex, many, ok, once, says};
 use arrayvec::ArrayString;
@@ -15,11 +16,11 @@ impl Runs {
         let second = if is_decoded { none } else { want };
         let (least, most) = if is_decoded { (2, 3) } else { (1, 2) };
         calls! { self.tries:
-            Run { granted: 0, ..run }, End { asked: 2, ..none };
-            Run { granted: 1, ..run }, End { asked: least, ..second };
-            Run { granted: 2, ..run }, End { asked: least, ..want };
-            Run { refused: 0, ..run }, End { asked: most, ..want };
-            Run { refused: 1, ..run }, End { asked: least, ..second };
+            run.granted(0), none.asked(2);
+            run.granted(1), second.asked(least);
+            run.granted(2), want.asked(least);
+            run.refused(0), want.asked(most);
+            run.refused(1), second.asked(least);
         }
     }
 }
@@ -37,10 +38,10 @@ fn each_allocation_may_be_refused(rt: HostRuntime) {
         fhex(&["decode-upper"], b"ab"), true, says(1, "invalid hex byte 0x61 at index 0");
     }
     calls! { runs.tries:
-        Run { granted: 0, ..fhex(&["decode"], b"") }, End { asked: 1, ..ok(b"") };
-        Run { refused: 0, ..fhex(&["decode"], b"") }, End { asked: 1, ..ok(b"") };
+        fhex(&["decode"], b"").granted(0), ok(b"").asked(1);
+        fhex(&["decode"], b"").refused(0), ok(b"").asked(1);
     }
-    assert_eq!(rt; runs.seen.ended(37), "");
+    ends(&rt, runs.seen.ended(37));
 }
 
 // The codes are EINTR, EIO, EAGAIN, ENOMEM, ECONNRESET and ETIMEDOUT.
@@ -50,25 +51,25 @@ fn a_read_that_fails_ends_the_run(rt: HostRuntime) {
     let want = says(3, "read failed");
     for failure in [4, 5, 11, 12, 104, 110] {
         calls! { runs.tries:
-            Run { failure, ..fhex(&["encode-upper"], b"") }, want;
-            Run { failure, ..fhex(&["decode"], b"0000") }, want;
-            Run { failure, ..fhex(&["encode"], &[b'0'; 100_000]) }, want;
+            fhex(&["encode-upper"], b"").failure(failure), want;
+            fhex(&["decode"], b"0000").failure(failure), want;
+            fhex(&["encode"], &[b'0'; 100_000]).failure(failure), want;
         }
     }
     calls! { runs.tries:
-        Run { failure: 4, ..fhex(&["decode-lower"], b"!!!") }, want;
-        Run { failure: 4, ..fhex(&["decode-upper"], &[b'0'; 65_536]) }, want;
-        Run { failure: 110, is_buffered: true, ..fhex(&["decode"], b"0000") }, want;
-        Run { failure: 5, is_buffered: true, ..fhex(&["encode"], &[b'0'; 100_000]) }, want;
+        fhex(&["decode-lower"], b"!!!").failure(4), want;
+        fhex(&["decode-upper"], &[b'0'; 65_536]).failure(4), want;
+        fhex(&["decode"], b"0000").failure(110).buffered(), want;
+        fhex(&["encode"], &[b'0'; 100_000]).failure(5).buffered(), want;
     }
-    assert_eq!(rt; runs.seen.ended(22), "");
+    ends(&rt, runs.seen.ended(22));
 }
 
 impl Runs {
     // Tries a run that ends with a failed write after the output `out`.
     fn breaks(&mut self, run: Run<'_>, out: &[u8]) {
         let (out, end) = (once(out), says(3, "write failed"));
-        self.tries(run, End { out, ..end });
+        self.tries(run, end.out(out));
     }
 }
 
@@ -80,30 +81,30 @@ fn a_write_that_fails_ends_the_run(rt: HostRuntime) {
     (buffered.is_buffered, long.is_buffered) = (true, true);
     long.input = many(400_000, b"0", b"");
     calls! { runs.breaks:
-        Run { out: Stuck, ..fhex(&["encode"], b"00") }, b""; Run { out: Stuck, ..fhex(&["encode-upper"], b"00") }, b"";
-        Run { out: Stuck, ..fhex(&["decode"], b"00") }, b""; Run { out: Stuck, ..fhex(&["decode-lower"], b"00") }, b"";
-        Run { out: Stuck, ..fhex(&["decode-upper"], b"00") }, b"";
-        Run { out: Limited(3), ..fhex(&["decode"], b"00000000") }, b"\0\0\0";
-        Run { out: Limited(0), ..fhex(&["decode-lower"], b"00") }, b"";
-        Run { out: Limited(4), ..fhex(&["encode"], b"00") }, b"3030";
-        Run { out: Limited(1_030), ..fhex(&["encode-upper"], &[b'0'; 600]) }, &repeated::<1_030>(b"30");
-        Run { out: Unflushed, ..fhex(&["encode"], b"00") }, b"3030\n";
-        Run { out: Unflushed, ..fhex(&["decode-upper"], b"") }, b"";
-        Run { out: Limited(3), ..buffered }, b"303";
-        Run { out: Limited(0), ..buffered }, b"";
-        Run { out: Stuck, ..buffered }, b"";
-        Run { out: Unflushed, ..buffered }, b"3030\n";
-        Run { out: Limited(3), ..long }, b"\0\0\0";
-        Run { out: Stuck, ..long }, b"";
+        fhex(&["encode"], b"00").out(Stuck), b""; fhex(&["encode-upper"], b"00").out(Stuck), b"";
+        fhex(&["decode"], b"00").out(Stuck), b""; fhex(&["decode-lower"], b"00").out(Stuck), b"";
+        fhex(&["decode-upper"], b"00").out(Stuck), b"";
+        fhex(&["decode"], b"00000000").out(Limited(3)), b"\0\0\0";
+        fhex(&["decode-lower"], b"00").out(Limited(0)), b"";
+        fhex(&["encode"], b"00").out(Limited(4)), b"3030";
+        fhex(&["encode-upper"], &[b'0'; 600]).out(Limited(1_030)), &repeated::<1_030>(b"30");
+        fhex(&["encode"], b"00").out(Unflushed), b"3030\n";
+        fhex(&["decode-upper"], b"").out(Unflushed), b"";
+        buffered.out(Limited(3)), b"303";
+        buffered.out(Limited(0)), b"";
+        buffered.out(Stuck), b"";
+        buffered.out(Unflushed), b"3030\n";
+        long.out(Limited(3)), b"\0\0\0";
+        long.out(Stuck), b"";
     }
     let invalid = says(1, "invalid hex byte 0x67 at index 0");
     calls! { runs.tries:
         buffered, ok(b"3030\n");
-        long, End { out: many(200_000, b"\0", b""), ..ok(b"") };
-        Run { out: Unflushed, ..fhex(&["decode"], b"gg") }, invalid;
-        Run { is_buffered: true, out: Unflushed, ..fhex(&["decode"], b"gg") }, invalid;
+        long, ok(b"").out(many(200_000, b"\0", b""));
+        fhex(&["decode"], b"gg").out(Unflushed), invalid;
+        fhex(&["decode"], b"gg").buffered().out(Unflushed), invalid;
     }
-    assert_eq!(rt; runs.seen.ended(21), "");
+    ends(&rt, runs.seen.ended(21));
 }
 
 // What `fhex vectors` prints: each vector passes, under each plan if it takes one.
@@ -128,24 +129,24 @@ fn the_stored_vectors_pass(rt: HostRuntime) {
     let (write, memory) = (says(3, "write failed"), says(3, "out of memory"));
     assert_eq!(rt; lines.len(), 1_288);
     calls! { runs.tries:
-        hello, End { left: 5, ..ok(lines) };
-        Run { failure: 4, ..run }, ok(lines);
-        Run { is_buffered: true, failure: 4, ..run }, ok(lines);
-        Run { out: Stuck, ..fhex(&["vectors"], b"00") }, End { left: 2, ..write };
-        Run { granted: 10, out: Stuck, ..run }, End { asked: 10, ..write };
+        hello, ok(lines).left(5);
+        run.failure(4), ok(lines);
+        run.buffered().failure(4), ok(lines);
+        fhex(&["vectors"], b"00").out(Stuck), write.left(2);
+        run.granted(10).out(Stuck), write.asked(10);
     }
     calls! { runs.breaks:
-        Run { out: Limited(1_287), ..run }, lines.get(..1_287).unwrap_or_default();
-        Run { out: Unflushed, ..run }, lines;
-        Run { out: Limited(0), ..run }, b"";
-        Run { out: Limited(20), ..run }, b"scalar v01 pass\nscal";
-        Run { is_buffered: true, out: Limited(20), ..run }, b"scalar v01 pass\nscal";
+        run.out(Limited(1_287)), lines.get(..1_287).unwrap_or_default();
+        run.out(Unflushed), lines;
+        run.out(Limited(0)), b"";
+        run.out(Limited(20)), b"scalar v01 pass\nscal";
+        run.buffered().out(Limited(20)), b"scalar v01 pass\nscal";
     }
     for count in 0..10 {
         calls! { runs.tries:
-            Run { granted: count, ..hello }, End { left: 5, asked: count + 1, ..memory };
-            Run { refused: count, ..hello }, End { left: 5, asked: count + 1, ..memory };
+            hello.granted(count), memory.left(5).asked(count + 1);
+            hello.refused(count), memory.left(5).asked(count + 1);
         }
     }
-    assert_eq!(rt; runs.seen.ended(30), "");
+    ends(&rt, runs.seen.ended(30));
 }

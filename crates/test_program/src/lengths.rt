@@ -1,5 +1,6 @@
 //! Inputs of each length up to 2,048 bytes, long inputs, and inputs in short reads.
 
+use crate::ends;
 use crate::run::{DECODE, ENCODE, EVEN, End, Run, Runs, fhex, fhex_stream, many, ok, says};
 use arrayvec::ArrayString;
 use std::fmt::Write as _;
@@ -9,17 +10,17 @@ fn encodes(runs: &mut Runs, count: usize, every: usize) {
     for (word, unit) in ENCODE {
         let input = many(count, b"\xab", b"");
         let out = many(count.saturating_mul(2), unit, b"\n");
-        calls! { runs.tries: Run { input, every, ..fhex(&[word], b"") }, End { out, ..ok(b"") }; }
+        calls! { runs.tries: fhex(&[word], b"").input(input).every(every), ok(b"").out(out); }
     }
 }
 
 // Decodes `count` digits and the bytes `end` behind them.
 fn decodes(runs: &mut Runs, count: usize, end: &[u8], every: usize) {
     let (input, out) = (many(count, b"0", end), many(count / 2, b"\0", b""));
-    let done = End { out, ..ok(b"") };
+    let done = ok(b"").out(out);
     let want = if count % 2 == 0 { done } else { says(1, EVEN) };
     for word in DECODE {
-        calls! { runs.tries: Run { input, every, ..fhex(&[word], b"") }, want; }
+        calls! { runs.tries: fhex(&[word], b"").input(input).every(every), want; }
     }
 }
 
@@ -38,7 +39,7 @@ fn each_length_is_served(rt: HostRuntime) {
             decodes(&mut runs, count, b"\n", usize::MAX);
         }
     }
-    assert_eq!(rt; runs.seen.ended(32_770), "");
+    ends(&rt, runs.seen.ended(32_770));
 }
 
 // Tries each operation of `fhex-stream` with `count` bytes or pairs of digits.
@@ -50,9 +51,9 @@ fn streams(runs: &mut Runs, count: usize, every: usize, every_digit: usize) {
     let (one_line, bytes) = (many(digits, b"ab", b"\n"), many(count, b"\0", b""));
     let (input, text) = (many(count, b"\xab", b""), many(digits, b"0", b""));
     calls! { runs.tries:
-        Run { input, every, ..fhex_stream(&["encode"], b"") }, End { out: one_line, ..ok(b"") };
-        Run { input, every, ..fhex_stream(&["encode-lines"], b"") }, End { out: lines, ..ok(b"") };
-        Run { input: text, every: every_digit, ..fhex_stream(&["decode"], b"") }, End { out: bytes, ..ok(b"") };
+        fhex_stream(&["encode"], b"").input(input).every(every), ok(b"").out(one_line);
+        fhex_stream(&["encode-lines"], b"").input(input).every(every), ok(b"").out(lines);
+        fhex_stream(&["decode"], b"").input(text).every(every_digit), ok(b"").out(bytes);
     }
 }
 
@@ -63,7 +64,7 @@ fn each_length_is_streamed(rt: HostRuntime) {
         streams(&mut runs, count, 100_000, 100_000);
         streams(&mut runs, count, 1, 2);
     }
-    assert_eq!(rt; runs.seen.ended(12_288), "");
+    ends(&rt, runs.seen.ended(12_288));
 }
 
 // The longest input has 16,777,216 bytes, a final newline included. An endless one is not read to its end.
@@ -74,23 +75,23 @@ fn long_inputs_are_served_up_to_the_longest(rt: HostRuntime) {
     let (lower, long) = (fhex(&["decode-lower"], b""), says(3, "input too long"));
     let (odd, out) = (says(1, EVEN), many(33_554_430, b"ff", b"0a\n"));
     calls! { runs.tries:
-        Run { input: many(140_000, b"0", b""), ..decode }, End { out: many(70_000, b"\0", b""), ..ok(b"") };
-        Run { input: many(139_999, b"0", b""), ..decode }, odd;
-        Run { input: many(2_000_000, b"0", b"g0"), ..decode }, says(1, "invalid hex byte 0x67 at index 2000000");
-        Run { input: many(16_777_216, b"0", b""), ..decode }, End { out: many(8_388_608, b"\0", b""), ..ok(b"") };
-        Run { input: many(16_777_214, b"0", b"\n"), ..lower }, End { out: many(8_388_607, b"\0", b""), ..ok(b"") };
-        Run { input: many(16_777_215, b"\xff", b"\n"), ..encode }, End { out, ..ok(b"") };
-        Run { input: many(16_777_215, b"0", b""), ..decode }, odd;
-        Run { input: many(16_777_215, b"0", b"\n"), ..decode }, odd;
-        Run { input: many(16_777_217, b"0", b""), ..decode }, long;
-        Run { input: many(16_777_216, b"0", b"\n"), ..decode }, long;
-        Run { input: many(16_777_217, b"\0", b""), ..encode }, long;
-        Run { input: many(16_777_217, b"\xff", b""), ..fhex(&["encode-upper"], b"") }, long;
-        Run { input: many(16_777_217, b"g", b""), ..lower }, long;
-        Run { input: many(16_777_217, b"\n", b""), ..fhex(&["decode-upper"], b"") }, long;
-        Run { input: many(usize::MAX, b"0", b""), ..decode }, long;
+        decode.input(many(140_000, b"0", b"")), ok(b"").out(many(70_000, b"\0", b""));
+        decode.input(many(139_999, b"0", b"")), odd;
+        decode.input(many(2_000_000, b"0", b"g0")), says(1, "invalid hex byte 0x67 at index 2000000");
+        decode.input(many(16_777_216, b"0", b"")), ok(b"").out(many(8_388_608, b"\0", b""));
+        lower.input(many(16_777_214, b"0", b"\n")), ok(b"").out(many(8_388_607, b"\0", b""));
+        encode.input(many(16_777_215, b"\xff", b"\n")), ok(b"").out(out);
+        decode.input(many(16_777_215, b"0", b"")), odd;
+        decode.input(many(16_777_215, b"0", b"\n")), odd;
+        decode.input(many(16_777_217, b"0", b"")), long;
+        decode.input(many(16_777_216, b"0", b"\n")), long;
+        encode.input(many(16_777_217, b"\0", b"")), long;
+        fhex(&["encode-upper"], b"").input(many(16_777_217, b"\xff", b"")), long;
+        lower.input(many(16_777_217, b"g", b"")), long;
+        fhex(&["decode-upper"], b"").input(many(16_777_217, b"\n", b"")), long;
+        decode.input(many(usize::MAX, b"0", b"")), long;
     }
-    assert_eq!(rt; runs.seen.ended(15), "");
+    ends(&rt, runs.seen.ended(15));
 }
 
 impl Runs {
@@ -98,7 +99,7 @@ impl Runs {
     fn pieces(&mut self, input: &[u8], wants: [End<'_>; 3]) {
         for (word, want) in DECODE.into_iter().zip(wants) {
             for every in 1..=8 {
-                calls! { self.tries: Run { every, ..fhex(&[word], input) }, want; }
+                calls! { self.tries: fhex(&[word], input).every(every), want; }
             }
         }
     }
@@ -129,7 +130,7 @@ fn an_input_may_come_in_short_reads(rt: HostRuntime) {
         b"00 0", [says(1, "invalid hex byte 0x20 at index 2"); 3];
         b"0123456789abcdef0123456789abcdeg\n", [last, last, letter];
     }
-    assert_eq!(rt; runs.seen.ended(528), "");
+    ends(&rt, runs.seen.ended(528));
 }
 
 // Decodes zeros, the byte `other` at a place, and `behind` zeros behind it.
@@ -151,7 +152,7 @@ fn near_the_end_of_a_read(runs: &mut Runs, place: usize, other: u8, behind: usiz
         ok(bytes.get(..digits / 2).unwrap_or_default())
     };
     for every in [65_535, 65_536] {
-        calls! { runs.tries: Run { every, ..fhex(&["decode"], input) }, want; }
+        calls! { runs.tries: fhex(&["decode"], input).every(every), want; }
     }
 }
 
@@ -166,5 +167,5 @@ fn each_byte_near_the_end_of_a_read_is_read(rt: HostRuntime) {
             }
         }
     }
-    assert_eq!(rt; runs.seen.ended(360), "");
+    ends(&rt, runs.seen.ended(360));
 }

@@ -1,6 +1,9 @@
 //! Tests of `hex_program`, and of writers that fail. A test has lists of calls or loops, and counts its inputs.
 #![tactic(auto)]
 
+#[cfg(test)]
+use std::process::Abort;
+
 // Calls a method once for each list of arguments.
 #[cfg(test)]
 macro_rules! calls {
@@ -27,3 +30,9 @@ mod vectors;
 mod words;
 #[cfg(test)]
 mod writers;
+
+// Ends a test. `text` is about the first call that gave a wrong result, and must be empty.
+#[cfg(test)]
+fn ends(rt: &impl Abort, text: &str) {
+    assert_eq!(rt; text, "");
+}

@@ -1,5 +1,6 @@
 //! Runs of one operation over a writer.
 
+use crate::ends;
 use crate::run::Room::*;
 use crate::run::{DECODE, ENCODE, Run, Runs, fhex, many, once};
 use hex_core::Error::{InvalidChar, OddLength};
@@ -81,7 +82,7 @@ fn each_length_is_put(rt: HostRuntime) {
     for count in 1..2_049 {
         each_operation(&mut runs, count, &[0xab; 2_048], &[b'0'; 4_096]);
     }
-    assert_eq!(rt; runs.seen.ended(10_242), "");
+    ends(&rt, runs.seen.ended(10_242));
 }
 
 impl Runs {
@@ -92,15 +93,15 @@ impl Runs {
         for room in 0..17 {
             let ended = if room < out.len() { FULL } else { want };
             let taken = once(out.get(..room).unwrap_or(out));
-            calls! { self.puts: Run { out: Limited(room), ..run }, ended, taken, 0; }
+            calls! { self.puts: run.out(Limited(room)), ended, taken, 0; }
         }
         let stuck = if out.is_empty() { want } else { STUCK };
         let none = if asked == 0 { want } else { NO_MEMORY };
         let nothing = if asked == 0 { out } else { b"" };
         calls! { self.puts:
-            Run { out: Stuck, ..run }, stuck, once(b""), 0;
-            Run { granted: 0, ..run }, none, once(nothing), asked;
-            Run { granted: 1, ..run }, want, once(out), asked;
+            run.out(Stuck), stuck, once(b""), 0;
+            run.granted(0), none, once(nothing), asked;
+            run.granted(1), want, once(out), asked;
         }
     }
 }
@@ -141,5 +142,5 @@ fn a_run_puts_what_fits_or_says_what_is_wrong(rt: HostRuntime) {
         &["decode-upper"], b"ff", invalid(0, b'f'), b"", 1; &["decode"], b"abc\n", ODD, b"", 0;
         &["decode"], b"ab\n\n", ODD, b"", 0; &["decode"], b"abc", ODD, b"", 0; &["decode-lower"], b"0", ODD, b"", 0;
     }
-    assert_eq!(rt; runs.seen.ended(660), "");
+    ends(&rt, runs.seen.ended(660));
 }

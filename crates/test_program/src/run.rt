@@ -111,6 +111,50 @@ impl Display for Run<'_> {
 }
 
 impl<'a> Run<'a> {
+    /// Returns the same run with another input.
+    pub fn input(self, input: Pattern<'a>) -> Run<'a> {
+        Run { input, ..self }
+    }
+
+    /// Returns the same run with an output that is kept back.
+    pub fn buffered(self) -> Run<'a> {
+        let is_buffered = true;
+        Run {
+            is_buffered,
+            ..self
+        }
+    }
+
+    /// Returns the same run with another number of allocations before each one is refused.
+    pub fn granted(self, granted: u64) -> Run<'a> {
+        Run { granted, ..self }
+    }
+
+    /// Returns the same run with another number of allocations before one is refused.
+    pub fn refused(self, refused: u64) -> Run<'a> {
+        Run { refused, ..self }
+    }
+
+    /// Returns the same run with shorter reads.
+    pub fn every(self, every: usize) -> Run<'a> {
+        Run { every, ..self }
+    }
+
+    /// Returns the same run with an error after the input.
+    pub fn failure(self, failure: i32) -> Run<'a> {
+        Run { failure, ..self }
+    }
+
+    /// Returns the same run with another writer of the output.
+    pub fn out(self, out: Room) -> Run<'a> {
+        Run { out, ..self }
+    }
+
+    /// Returns the same run with another writer of the message.
+    pub fn err(self, err: Room) -> Run<'a> {
+        Run { err, ..self }
+    }
+
     /// Returns an allocator that refuses what the run must not get.
     pub fn refusing(self, alloc: Global) -> Refusing<Global> {
         if self.refused < u64::MAX {
@@ -168,10 +212,27 @@ pub struct End<'a> {
     pub asked: u64,
 }
 
+impl<'a> End<'a> {
+    /// Returns the same end with another output.
+    pub fn out(self, out: Pattern<'a>) -> End<'a> {
+        End { out, ..self }
+    }
+
+    /// Returns the same end with bytes of the input that are not read.
+    pub fn left(self, left: usize) -> End<'a> {
+        End { left, ..self }
+    }
+
+    /// Returns the same end with a number of allocations.
+    pub fn asked(self, asked: u64) -> End<'a> {
+        End { asked, ..self }
+    }
+}
+
 /// Returns the end of a run that has written its whole output.
 pub fn ok(out: &[u8]) -> End<'_> {
     let (out, end) = (once(out), says(0, ""));
-    End { out, ..end }
+    end.out(out)
 }
 
 /// Returns the end of a run that fails, and has written nothing to the output.
@@ -249,7 +310,7 @@ impl Runs {
     /// Tries words that name nothing: the end is the usage, and nothing is read.
     pub fn names_nothing(&mut self, run: Run<'_>, usage: &str) {
         let (left, end) = (run.input.end.len(), says(2, usage));
-        self.tries(run, End { left, ..end });
+        self.tries(run, end.left(left));
     }
 
     /// Compares how many allocations a run made, and whether it gave all back.

@@ -1,5 +1,6 @@
 //! How a vector runs, and what each stored vector has.
 
+use crate::ends;
 use hex_core::CheckCase::{Lower, None as Either, Upper};
 use hex_core::Error::{self, InvalidChar, OddLength, OutputTooSmall};
 use hex_program::program::serve_vectors;
@@ -126,7 +127,7 @@ fn a_vector_fails_unless_all_that_it_states_is_right(rt: HostRuntime) {
         "v" Decode(Either), b"00a", Err(OddLength), &[0xa5; 3];
         "v" Decode(Either), b"", Ok(0), &[0xa5; 128];
     }
-    assert_eq!(rt; vectors.seen.ended(18), "");
+    ends(&rt, vectors.seen.ended(18));
 }
 
 // A vector of groups fails for a separator elsewhere, a byte behind the text, another case, another place of an error,
@@ -160,7 +161,7 @@ fn a_vector_of_groups_or_lists_fails_unless_all_is_right(rt: HostRuntime) {
         "v" WriteList, b"\xab\x01*b", Ok(7), b"AB01 *b\n";
         "v" WriteList, b"\xab", Ok(0), b"";
     }
-    assert_eq!(rt; vectors.seen.ended(23), "");
+    ends(&rt, vectors.seen.ended(23));
 }
 
 #[test]
@@ -197,5 +198,5 @@ fn the_stored_vectors_are_these(rt: HostRuntime) {
         "v19", ReadList, b"ab01 *b", Ok(1), b"\xab\x01*b";
         "v20", WriteList, b"\xab\x01*b", Ok(8), b"AB01 *b\n";
     }
-    assert_eq!(rt; vectors.seen.ended(20), "");
+    ends(&rt, vectors.seen.ended(20));
 }

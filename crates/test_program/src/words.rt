@@ -1,5 +1,6 @@
 //! The words of `fhex`: what each operation writes, and which words name no operation.
 
+use crate::ends;
 use crate::run::Room::*;
 use crate::run::{DECODE, EVEN, Run, Runs, fhex, ok, says};
 use hex_core::Error::{self, InvalidChar, LengthMismatch, OutputTooSmall};
@@ -34,12 +35,12 @@ fn an_operation_writes_its_output_or_says_what_is_wrong(rt: HostRuntime) {
         fhex(&["decode-lower"], b"AB"), says(1, "invalid hex byte 0x41 at index 0");
         fhex(&["decode-upper"], b"ab"), says(1, "invalid hex byte 0x61 at index 0");
         fhex(&["decode-upper"], b"ABc"), says(1, EVEN);
-        Run { err: Limited(7), ..fhex(&["decode"], b"0g") }, says(1, "invalid");
-        Run { err: Limited(8), ..fhex(&["decode-encode"], b"") }, says(2, "usage: f");
-        Run { err: Limited(7), ..fhex(&["decode-upper"], b"abc") }, says(1, "hex inp");
-        Run { err: Unflushed, ..fhex(&["decode-upper"], b"abc") }, says(1, EVEN);
+        fhex(&["decode"], b"0g").err(Limited(7)), says(1, "invalid");
+        fhex(&["decode-encode"], b"").err(Limited(8)), says(2, "usage: f");
+        fhex(&["decode-upper"], b"abc").err(Limited(7)), says(1, "hex inp");
+        fhex(&["decode-upper"], b"abc").err(Unflushed), says(1, EVEN);
     }
-    assert_eq!(rt; runs.seen.ended(31), "");
+    ends(&rt, runs.seen.ended(31));
 }
 
 #[test]
@@ -54,7 +55,7 @@ fn words_that_name_nothing_end_with_the_usage(rt: HostRuntime) {
         fhex(&["decode-Upper"], b"00"), USAGE; fhex(&["decode-"], b"00"), USAGE;
         fhex(&["--help"], b"00"), USAGE; fhex(&["--version"], b"00"), USAGE;
     }
-    assert_eq!(rt; runs.seen.ended(15), "");
+    ends(&rt, runs.seen.ended(15));
 }
 
 // Returns whether the message of this error is `text`, whatever flags the format string has.
