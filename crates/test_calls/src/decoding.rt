@@ -1,5 +1,6 @@
 //! Families of digits that are decoded.
 
+use crate::ends;
 use crate::slices::{POLICIES, Slices};
 use hex_core::CheckCase::{self, Lower, None as Either, Upper};
 use test_kit::source::{alphabet, digits, first, joined, listed, repeated, with};
@@ -20,7 +21,7 @@ fn each_length_is_decoded(rt: HostRuntime) {
             slices.decodes(case, room, first(&repeated::<600>(unit), 2 * len));
         }
     }
-    assert_eq!(rt; slices.ended(1_204), "");
+    ends(&rt, slices.ended(1_204));
 }
 
 // Refused sources of each length up to 601: of odd length, with too little room, or with an invalid byte near the end.
@@ -44,7 +45,7 @@ fn each_length_is_refused(rt: HostRuntime) {
             slices.decodes(case, room, first(&src, 2 * len));
         }
     }
-    assert_eq!(rt; slices.ended(2_402), "");
+    ends(&rt, slices.ended(2_402));
 }
 
 #[test]
@@ -56,7 +57,7 @@ fn a_byte_past_ascii_is_refused_between_digits(rt: HostRuntime) {
             slices.decodes(case, 40, &with([b'7'; 64], place, 0xf8));
         }
     }
-    assert_eq!(rt; slices.ended(189), "");
+    ends(&rt, slices.ended(189));
 }
 
 // Tries each of the bytes `others` at each place of `len` digits, with `spare` more bytes of room than are needed.
@@ -84,7 +85,7 @@ fn invalid_characters_at_each_position_never_commit_output(rt: HostRuntime) {
         each_place(&mut slices, Lower, len, 0, b'0', b"A");
         each_place(&mut slices, Upper, len, 0, b'0', b"a");
     }
-    assert_eq!(rt; slices.ended(6_576), "");
+    ends(&rt, slices.ended(6_576));
 }
 
 #[test]
@@ -100,7 +101,7 @@ fn diagnostic_block_skipping_keeps_byte_offsets_and_first_error(rt: HostRuntime)
             }
         }
     }
-    assert_eq!(rt; slices.ended(93), "");
+    ends(&rt, slices.ended(93));
 }
 
 #[test]
@@ -113,7 +114,7 @@ fn independent_decode_lengths_stop_at_guard_pages(rt: HostRuntime) {
             slices.decodes(Either, room, first(&[b'a'; 129], len));
         }
     }
-    assert_eq!(rt; slices.ended(2_080), "");
+    ends(&rt, slices.ended(2_080));
 }
 
 // Decodes bytes of any value, of each length up to 2,048, into too little and into enough room.
@@ -182,7 +183,7 @@ fn arbitrary_bytes_and_independent_lengths(rt: HostRuntime) {
             first(&repeated::<2_048>(b"F0123456789abcdefABCDE"), 2 * k),
         );
     }
-    assert_eq!(rt; slices.ended(51_253), "");
+    ends(&rt, slices.ended(51_253));
 }
 
 // Decodes digits with an invalid byte at `place`: into too little room, without the last digit, and into enough room.
@@ -223,7 +224,7 @@ fn generated_hex_covers_success_and_controlled_failures(rt: HostRuntime) {
             }
         }
     }
-    assert_eq!(rt; slices.ended(39_942), "");
+    ends(&rt, slices.ended(39_942));
 }
 
 // Digits of a policy, then a byte that is no digit, then digits of either case, also letters that the policy refuses.
@@ -245,5 +246,5 @@ fn a_byte_that_is_no_digit_at_each_place_is_named(rt: HostRuntime) {
             slices.decodes(case, 300, joined(&parts, &mut src));
         }
     }
-    assert_eq!(rt; slices.ended(135_000), "");
+    ends(&rt, slices.ended(135_000));
 }

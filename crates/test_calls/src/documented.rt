@@ -1,5 +1,6 @@
 //! Calls with their stated results: basic ones, the examples in the documentation of the Rust crate, and its tests.
 
+use crate::ends;
 use crate::slices::{POLICIES, Slices, invalid, too_small};
 use hex_core::CheckCase::{Lower, None as Either, Upper};
 use hex_core::Error::OddLength;
@@ -12,7 +13,7 @@ fn encoding_writes_the_front_or_nothing(rt: HostRuntime) {
     slices.encode(Lower, 7, b"\x00\x0f", Ok(b"000f"));
     slices.encode(Upper, 5, b"", Ok(b""));
     slices.encode(Lower, 0, b"", Ok(b""));
-    assert_eq!(rt; slices.ended(5), "");
+    ends(&rt, slices.ended(5));
 }
 
 #[test]
@@ -28,7 +29,7 @@ fn decoding_writes_the_front_or_nothing(rt: HostRuntime) {
     for case in POLICIES {
         slices.decode(case, 4_096, &src, invalid(65, b'!'));
     }
-    assert_eq!(rt; slices.ended(8), "");
+    ends(&rt, slices.ended(8));
 }
 
 #[test]
@@ -46,7 +47,7 @@ fn a_check_looks_at_bytes_alone(rt: HostRuntime) {
         slices.check(case, b"00\n", false);
         slices.check(case, b"\xc3\xa9", false);
     }
-    assert_eq!(rt; slices.ended(19), "");
+    ends(&rt, slices.ended(19));
 }
 
 #[test]
@@ -54,14 +55,14 @@ fn examples_of_lib_rs(rt: HostRuntime) {
     let mut slices = Slices::new();
     slices.encode(Lower, 10, b"hello", Ok(b"68656c6c6f"));
     slices.decode(Either, 5, b"68656c6c6f", Ok(b"hello"));
-    assert_eq!(rt; slices.ended(2), "");
+    ends(&rt, slices.ended(2));
 }
 
 #[test]
 fn examples_of_error_rs(rt: HostRuntime) {
     let mut slices = Slices::new();
     slices.decode(Either, 1, b"0011", too_small(2));
-    assert_eq!(rt; slices.ended(1), "");
+    ends(&rt, slices.ended(1));
 }
 
 #[test]
@@ -81,7 +82,7 @@ fn examples_of_decode_rs(rt: HostRuntime) {
     slices.decode(Either, 3, b"00ff0g", invalid(5, b'g'));
     slices.decode(Lower, 2, b"ab01", Ok(b"\xab\x01"));
     slices.decode(Lower, 2, b"Ab01", invalid(0, b'A'));
-    assert_eq!(rt; slices.ended(15), "");
+    ends(&rt, slices.ended(15));
 }
 
 #[test]
@@ -90,7 +91,7 @@ fn examples_of_encode_rs(rt: HostRuntime) {
     slices.encode(Lower, 8, b"\x00\xab\xcd", Ok(b"00abcd"));
     slices.encode(Lower, 3, b"\xab\xcd", too_small(4));
     slices.encode(Upper, 6, b"\x00\xab\xff", Ok(b"00ABFF"));
-    assert_eq!(rt; slices.ended(3), "");
+    ends(&rt, slices.ended(3));
 }
 
 #[test]
@@ -106,7 +107,7 @@ fn encode_returns_only_written_utf8_prefix(rt: HostRuntime) {
         );
         slices.encode(case, 63, &[0; 32], too_small(64));
     }
-    assert_eq!(rt; slices.ended(6), "");
+    ends(&rt, slices.ended(6));
 }
 
 #[test]
@@ -121,7 +122,7 @@ fn decode_requires_room_for_all_input_and_preserves_spare_bytes(rt: HostRuntime)
         slices.decode(Either, room, b"abcd", want);
     }
     slices.decode(Either, 65, b"", Ok(b""));
-    assert_eq!(rt; slices.ended(6), "");
+    ends(&rt, slices.ended(6));
 }
 
 #[test]
@@ -133,7 +134,7 @@ fn errors_have_stable_precedence_and_do_not_write(rt: HostRuntime) {
     slices.check(Either, b"a", true);
     slices.check(Upper, b"a", false);
     slices.check(Either, b"", true);
-    assert_eq!(rt; slices.ended(6), "");
+    ends(&rt, slices.ended(6));
 }
 
 #[test]
@@ -143,7 +144,7 @@ fn diagnostics_identify_the_first_invalid_byte_for_each_policy(rt: HostRuntime) 
     slices.decode(Lower, 4, b"0A0bg!ff", invalid(1, b'A'));
     slices.decode(Upper, 4, b"0A0bg!ff", invalid(3, b'b'));
     slices.decode(Either, 4, b"\xc3\xa9", invalid(0, 0xc3));
-    assert_eq!(rt; slices.ended(4), "");
+    ends(&rt, slices.ended(4));
 }
 
 #[test]
@@ -152,5 +153,5 @@ fn strict_uppercase_fixed_hash_keeps_numeric_nibbles(rt: HostRuntime) {
     for digit in 0..10 {
         slices.decode(Upper, 32, &[b'0' + digit; 64], Ok(&[digit * 0x11; 32]));
     }
-    assert_eq!(rt; slices.ended(10), "");
+    ends(&rt, slices.ended(10));
 }

@@ -1,5 +1,6 @@
 //! Families of bytes that are encoded, and of round trips.
 
+use crate::ends;
 use crate::slices::Slices;
 use hex_core::CheckCase::{Lower, Upper};
 use test_kit::source::{digits, first, listed, repeated, with};
@@ -18,7 +19,7 @@ fn each_length_is_encoded(rt: HostRuntime) {
         slices.encodes(Lower, 2 * len - 1, first(&bytes, len));
         slices.encodes(Upper, 0, first(&bytes, len));
     }
-    assert_eq!(rt; slices.ended(1_503), "");
+    ends(&rt, slices.ended(1_503));
 }
 
 #[test]
@@ -32,7 +33,7 @@ fn some_bytes_go_round(rt: HostRuntime) {
     let text = repeated::<514>(b"004992db246db6");
     slices.goes_round(Lower, &listed::<8>(0), first(&text, 16), 0, 0);
     slices.goes_round(Lower, &listed::<257>(0), &text, 0, 0);
-    assert_eq!(rt; slices.ended(7), "");
+    ends(&rt, slices.ended(7));
 }
 
 #[test]
@@ -49,7 +50,7 @@ fn vector_boundaries_and_independent_buffer_offsets(rt: HostRuntime) {
             }
         }
     }
-    assert_eq!(rt; slices.ended(16_512), "");
+    ends(&rt, slices.ended(16_512));
 }
 
 #[test]
@@ -66,7 +67,7 @@ fn forced_backends_preserve_order_at_independent_alignments(rt: HostRuntime) {
             }
         }
     }
-    assert_eq!(rt; slices.ended(155_648), "");
+    ends(&rt, slices.ended(155_648));
 }
 
 #[test]
@@ -85,7 +86,7 @@ fn conversions_and_checks_stop_at_guard_pages(rt: HostRuntime) {
             slices.reads(case, first(&src, 2 * len));
         }
     }
-    assert_eq!(rt; slices.ended(2_574), "");
+    ends(&rt, slices.ended(2_574));
 }
 
 #[test]
@@ -96,5 +97,5 @@ fn public_and_scalar_paths_agree(rt: HostRuntime) {
         slices.goes_round_at(Lower, first(&bytes, len), 0, 0);
         slices.goes_round_at(Upper, first(&bytes, len), 0, 0);
     }
-    assert_eq!(rt; slices.ended(8_194), "");
+    ends(&rt, slices.ended(8_194));
 }

@@ -1,5 +1,6 @@
 //! What errors print, whatever width, precision and other flags the format string has.
 
+use crate::ends;
 use hex_codec::grouped::GroupFault;
 use hex_core::{CheckCase, Error};
 use hex_io::digests::{LineFault, ListFault, ListWriteFault};
@@ -17,7 +18,7 @@ macro_rules! prints {
     ($rt:ident $tried:literal: $($fault:expr => $text:literal)*) => {
         let mut seen = Seen::new();
         $(shows(&mut seen, $rt.alloc(), &$fault, $text);)*
-        assert_eq!($rt; seen.ended($tried), "");
+        ends(&$rt, seen.ended($tried));
     };
 }
 

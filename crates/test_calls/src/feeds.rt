@@ -1,5 +1,6 @@
 //! Families of digits that are fed to a decoder in chunks.
 
+use crate::ends;
 use crate::grouped::{ANY, LOWER, UPPER};
 use hex_core::{CheckCase, Error};
 use hex_io::stream::Decoder;
@@ -126,7 +127,7 @@ fn digits_fed_in_chunks(rt: HostRuntime) {
     each_seed(s, ANY, 301, 600);
     each_seed(s, ANY, 4_097, 300);
     each_seed(s, ANY, 9_999, 200);
-    assert_eq!(rt; seen.ended(4_000), "");
+    ends(&rt, seen.ended(4_000));
 }
 
 // Tries `len` digits with an invalid byte at `count` places. The place grows by `step` each time, the seed by `more`.
@@ -159,5 +160,5 @@ fn digits_fed_in_chunks_with_an_invalid_byte(rt: HostRuntime) {
     each_place(s, ANY, 10_000, b':', [7, 24, 400], 5);
     each_place(s, LOWER, 1_000, b'A', [0, 2, 500], 1);
     each_place(s, UPPER, 1_000, b'a', [1, 2, 500], 5);
-    assert_eq!(rt; seen.ended(3_800), "");
+    ends(&rt, seen.ended(3_800));
 }

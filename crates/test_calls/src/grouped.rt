@@ -1,5 +1,6 @@
 //! Families of grouped texts that are read.
 
+use crate::ends;
 use crate::slices::POLICIES;
 use hex_codec::Group;
 use hex_codec::grouped::{GroupFault, read, read_into};
@@ -138,7 +139,7 @@ fn grouped_texts_are_read_into_the_front(rt: HostRuntime) {
     );
     gives(s, (2, b':'), lower, Ok(b"\xab\xcd\xef"));
     gives(s, (2, b':'), upper, Ok(b"\xab\xcd\xef"));
-    assert_eq!(rt; seen.ended(12), "");
+    ends(&rt, seen.ended(12));
 }
 
 #[test]
@@ -157,7 +158,7 @@ fn lengths_of_no_grouped_text_are_refused_first(rt: HostRuntime) {
         any(s, MOST / 2, room, b"0001:", BAD_LENGTH);
         any(s, MOST, room, b"0001:", BAD_LENGTH);
     }
-    assert_eq!(rt; seen.ended(30), "");
+    ends(&rt, seen.ended(30));
 }
 
 // Tries a text in each destination that is too small.
@@ -199,7 +200,7 @@ fn want_of_room_is_told_before_the_first_wrong_byte(rt: HostRuntime) {
     invalid(s, 1, ANY, b"00:01-0z", 5, b'-');
     invalid(s, MOST / 2, ANY, b"0001:2", 4, b':');
     invalid(s, MOST, ANY, b"0001:2", 4, b':');
-    assert_eq!(rt; seen.ended(58), "");
+    ends(&rt, seen.ended(58));
 }
 
 #[test]
@@ -213,7 +214,7 @@ fn each_length_has_one_number_of_bytes_or_none(rt: HostRuntime) {
             }
         }
     }
-    assert_eq!(rt; seen.ended(3_020), "");
+    ends(&rt, seen.ended(3_020));
 }
 
 // Replaces the byte at a place, and returns the old one.
@@ -264,7 +265,7 @@ fn each_byte_at_each_place_of_a_grouped_text(rt: HostRuntime) {
     for (every, count) in [(1, 13), (2, 16), (3, 17), (4, 18), (8, 19), (16, 19)] {
         each_byte(&mut seen, every, count);
     }
-    assert_eq!(rt; seen.ended(180_480), "");
+    ends(&rt, seen.ended(180_480));
 }
 
 // Tries texts of up to 70 bytes, and of 2,049 bytes. All pieces of a text have the same digits.
@@ -296,7 +297,7 @@ fn grouped_texts_are_read_back(rt: HostRuntime) {
     for pieces in [(31, b' '), (32, 0), (33, b':'), (64, b' '), (513, b':')] {
         lengths(&mut seen, pieces);
     }
-    assert_eq!(rt; seen.ended(3_600), "");
+    ends(&rt, seen.ended(3_600));
 }
 
 // Tries wrong bytes at a place, alone and with a `g` behind them: two bytes that are no digits, `G` or a letter of the
@@ -364,5 +365,5 @@ fn wrong_bytes_at_each_place_of_a_grouped_text(rt: HostRuntime) {
     for every in [3, 6, 7, 9, 513, MOST] {
         each_wrong(&mut seen, every, b':');
     }
-    assert_eq!(rt; seen.ended(30_708), "");
+    ends(&rt, seen.ended(30_708));
 }

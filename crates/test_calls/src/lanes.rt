@@ -3,6 +3,7 @@
 ghost use Rattle.std.specs.Prelude.{IsTrue};
 ghost use Rattle.hex_core.specs.Lanes.{AreSmall};
 
+use crate::ends;
 use crate::slices::POLICIES;
 use hex_core::CheckCase::{self, Lower, None as Either, Upper};
 use hex_core::lanes::{
@@ -220,7 +221,7 @@ fn bytes_of_a_block_are_admitted(rt: HostRuntime) {
             }
         }
     }
-    assert_eq!(rt; seen.ended(793), "");
+    ends(&rt, seen.ended(793));
 }
 
 // A byte that is no digit has the nibble that saturating sums and differences leave.
@@ -257,7 +258,7 @@ fn saturating_nibbles(rt: HostRuntime) {
         }
         tries(&mut seen, Call::Saturate, case, &bytes, &want);
     }
-    assert_eq!(rt; seen.ended(292), "");
+    ends(&rt, seen.ended(292));
 }
 
 #[test]
@@ -292,7 +293,7 @@ fn checks_of_hashed_bytes(rt: HostRuntime) {
             );
         }
     }
-    assert_eq!(rt; seen.ended(1_158), "");
+    ends(&rt, seen.ended(1_158));
 }
 
 // Each byte that is no digit is refused between digits, and the byte 0xff in each lane.
@@ -335,7 +336,7 @@ fn nibbles_of_hashed_bytes(rt: HostRuntime) {
             }
         }
     }
-    assert_eq!(rt; seen.ended(570), "");
+    ends(&rt, seen.ended(570));
 }
 
 #[test]
@@ -363,5 +364,5 @@ fn blocks_are_packed_and_written(rt: HostRuntime) {
             );
         }
     }
-    assert_eq!(rt; seen.ended(9), "");
+    ends(&rt, seen.ended(9));
 }

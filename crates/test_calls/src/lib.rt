@@ -3,6 +3,9 @@
 #![tactic(auto)]
 
 #[cfg(test)]
+use std::process::Abort;
+
+#[cfg(test)]
 mod answers;
 #[cfg(test)]
 mod decoding;
@@ -42,3 +45,9 @@ mod spaced;
 mod streams;
 #[cfg(test)]
 mod wholes;
+
+// Ends a test. `text` is about the first call that gave a wrong result, and must be empty.
+#[cfg(test)]
+fn ends(rt: &impl Abort, text: &str) {
+    assert_eq!(rt; text, "");
+}

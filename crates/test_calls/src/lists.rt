@@ -2,6 +2,7 @@
 
 ghost use Rattle.std.specs.Prelude.{◌<◌};
 
+use crate::ends;
 use crate::grouped::{ANY, LOWER, UPPER};
 use crate::sinks::{MODES, Mode, Put, Taken};
 use hex_core::CheckCase;
@@ -179,7 +180,7 @@ fn lists_are_read_line_by_line(rt: HostRuntime) {
     two(s, alloc, b"a g1  b", 0, invalid(1, b' '));
     let list = b"ab01  a\nab01 *b\nab0z *c\n-";
     two(s, alloc, list, 2, invalid(3, b'z'));
-    assert_eq!(rt; seen.ended(25), "");
+    ends(&rt, seen.ended(25));
 }
 
 #[test]
@@ -198,7 +199,7 @@ fn names_are_all_that_is_left_of_their_lines(rt: HostRuntime) {
     reads::<0>(s, alloc, any(9, b"  x"), 1, None);
     reads::<0>(s, alloc, any(9, b"  "), 0, short);
     reads::<0>(s, alloc, any(9, b"0  x"), 0, mark);
-    assert_eq!(rt; seen.ended(10), "");
+    ends(&rt, seen.ended(10));
 }
 
 #[test]
@@ -223,7 +224,7 @@ fn memory_grows_behind_the_line_that_needs_it(rt: HostRuntime) {
     for granted in 0..=10 {
         reads::<0>(s, alloc, any(granted, &list), 2_000, short);
     }
-    assert_eq!(rt; seen.ended(28), "");
+    ends(&rt, seen.ended(28));
 }
 
 // What `sha256sum` printed for a text file with `hello` and a newline, and for an empty binary file.
@@ -236,7 +237,7 @@ fn list_that_sha256sum_printed(rt: HostRuntime) {
     let (mut seen, alloc) = (Seen::new(), rt.alloc());
     reads::<32>(&mut seen, alloc, any(9, PRINTED), 2, None);
     writes::<32>(&mut seen, alloc, lower(8_000, PRINTED), PRINTED);
-    assert_eq!(rt; seen.ended(2), "");
+    ends(&rt, seen.ended(2));
 }
 
 // Writes a list, in lowercase as `small` and in uppercase as `large`, into each room up to one byte more than it needs.
@@ -267,7 +268,7 @@ fn lists_are_written_into_each_room(rt: HostRuntime) {
     let list: [u8; 8_000] = repeated(LINES);
     let text: [u8; 8_000] = repeated(LOWER_LINES);
     writes::<2>(s, alloc, lower(8_000, &list), &text);
-    assert_eq!(rt; seen.ended(91), "");
+    ends(&rt, seen.ended(91));
 }
 
 // Tries lists in a letter case: with one name of each length up to 99, and with three lines.
@@ -338,7 +339,7 @@ fn lists_of_each_length_of_digest(rt: HostRuntime) {
     sized::<32>(s, alloc);
     sized::<64>(s, alloc);
     sized::<65>(s, alloc);
-    assert_eq!(rt; seen.ended(3_035), "");
+    ends(&rt, seen.ended(3_035));
 }
 
 #[test]
@@ -358,7 +359,7 @@ fn names_of_each_length_in_lists(rt: HostRuntime) {
         let cut = joined(&[b"ab01 *", name], &mut cut);
         writes::<2>(s, alloc, upper(list.len(), cut), list);
     }
-    assert_eq!(rt; seen.ended(8_192), "");
+    ends(&rt, seen.ended(8_192));
 }
 
 #[test]
@@ -371,5 +372,5 @@ fn lists_of_each_number_of_entries(rt: HostRuntime) {
         reads::<1>(&mut seen, alloc, lower(needed, list), count, None);
         writes::<1>(&mut seen, alloc, lower(list.len(), list), list);
     }
-    assert_eq!(rt; seen.ended(4_096), "");
+    ends(&rt, seen.ended(4_096));
 }

@@ -1,5 +1,6 @@
 //! What the comparisons of tests must notice: a wrong result, a wrong byte, and an input that was left out.
 
+use crate::ends;
 use crate::slices::{Slices, invalid};
 use hex_core::CheckCase::None as Either;
 use test_kit::seen::Given;
@@ -9,7 +10,7 @@ use test_kit::seen::Given;
 fn another_error_is_noticed(rt: HostRuntime) {
     let mut slices = Slices::new();
     slices.decode(Either, 5, b"gg\n", invalid(0, b'g'));
-    assert_eq!(rt; slices.ended(1), "");
+    ends(&rt, slices.ended(1));
 }
 
 #[test]
@@ -17,7 +18,7 @@ fn another_error_is_noticed(rt: HostRuntime) {
 fn another_byte_is_noticed(rt: HostRuntime) {
     let mut slices = Slices::new();
     slices.decode(Either, 1, b"ab", Ok(b"\xac"));
-    assert_eq!(rt; slices.ended(1), "");
+    ends(&rt, slices.ended(1));
 }
 
 #[test]
@@ -31,7 +32,7 @@ fn a_byte_behind_the_result_is_noticed(rt: HostRuntime) {
     let given = Given::new(Either, 4, b"ab");
     it.to
         .is_left(&mut it.seen, given, "decode_into", Ok::<_, u8>(b"\xab"));
-    assert_eq!(rt; slices.ended(0), "");
+    ends(&rt, slices.ended(0));
 }
 
 #[test]
@@ -39,5 +40,5 @@ fn a_byte_behind_the_result_is_noticed(rt: HostRuntime) {
 fn an_input_that_is_left_out_is_noticed(rt: HostRuntime) {
     let mut slices = Slices::new();
     slices.decodes(Either, 1, b"ab");
-    assert_eq!(rt; slices.ended(2), "");
+    ends(&rt, slices.ended(2));
 }

@@ -2,6 +2,7 @@
 
 ghost use Rattle.std.specs.Prelude.{◌<◌};
 
+use crate::ends;
 use crate::sized::{SPELLINGS, array, array_gives, fixed, multiples, spelled};
 use crate::slices::{POLICIES, Slices, invalid};
 use hex_codec::{
@@ -239,7 +240,7 @@ fn long_texts(rt: HostRuntime) {
         }
         tries.long(case, 34_000_000);
     }
-    assert_eq!(rt; tries.seen.ended(6_147), "");
+    ends(&rt, tries.seen.ended(6_147));
 }
 
 // Tries a source by each policy, with and without memory.
@@ -268,7 +269,7 @@ fn vectors_ask_for_memory_once(rt: HostRuntime) {
     for len in [14, 16, 30, 32, 34, 62, 64, 66, 126, 128, 130, 512, 8_192] {
         each_policy(&mut tries, first(&text, len));
     }
-    assert_eq!(rt; tries.seen.ended(204), "");
+    ends(&rt, tries.seen.ended(204));
 }
 
 // Digits of each even length up to 4,096, and 138,000 bytes of which only the last is no digit.
@@ -282,7 +283,7 @@ fn vectors_of_each_length(rt: HostRuntime) {
         }
         tries.vector(case, 1, &with(text, 137_999, b'g'));
     }
-    assert_eq!(rt; tries.seen.ended(6_147), "");
+    ends(&rt, tries.seen.ended(6_147));
 }
 
 #[test]
@@ -297,7 +298,7 @@ fn vectors_decode_complete_inputs_for_every_case_policy(rt: HostRuntime) {
         }
     }
     tries.vector(Either, 1, b"0001");
-    assert_eq!(rt; tries.seen.ended(61), "");
+    ends(&rt, tries.seen.ended(61));
 }
 
 #[test]
@@ -309,7 +310,7 @@ fn vectors_keep_slice_decoder_error_precedence_and_grammar(rt: HostRuntime) {
     for case in POLICIES {
         tries.vector(case, 1, b"0A0bg!ff");
     }
-    assert_eq!(rt; tries.seen.ended(8), "");
+    ends(&rt, tries.seen.ended(8));
 }
 
 // Digits of whole blocks and a tail, with an invalid byte at some place, alone and with another one at the start.
@@ -348,7 +349,7 @@ fn owned_outputs_report_errors_across_complete_blocks_and_tails(rt: HostRuntime)
         blocks_and_tail::<1_025>(&mut tries, case, other);
         blocks_and_tail::<4_096>(&mut tries, case, other);
     }
-    assert_eq!(rt; tries.seen.ended(228), "");
+    ends(&rt, tries.seen.ended(228));
 }
 
 // Decodes the digits of a hash within a buffer: all, those of four bytes, and with each of `others` for a digit.
@@ -377,7 +378,7 @@ fn owned_decoders_match_independently_generated_hashes(rt: HostRuntime) {
         hashes(&mut tries, start, Lower, b"\x00/:Gg\x7f\x80\xffA");
         hashes(&mut tries, start, Upper, b"\x00/:Gg\x7f\x80\xffa");
     }
-    assert_eq!(rt; tries.seen.ended(196_608), "");
+    ends(&rt, tries.seen.ended(196_608));
 }
 
 // Decodes each prefix of a source into an array of 32 bytes, a vector and a slice.
@@ -399,8 +400,8 @@ fn arbitrary_input_matches_slice_errors_after_array_length_validation(rt: HostRu
     let units = [b"0123456789abcdefABCDEF", b"F0123456789abcdefABCDE"];
     each_length(&mut tries, &mut slices, Lower, &repeated(units[0]));
     each_length(&mut tries, &mut slices, Upper, &repeated(units[1]));
-    assert_eq!(rt; tries.seen.ended(2_080), "");
-    assert_eq!(rt; slices.ended(1_040), "");
+    ends(&rt, tries.seen.ended(2_080));
+    ends(&rt, slices.ended(1_040));
 }
 
 #[test]
@@ -418,7 +419,7 @@ fn strings_and_appends_of_each_length(rt: HostRuntime) {
             tries.append(case, 1, first(&list, len), (0, ""));
         }
     }
-    assert_eq!(rt; tries.seen.ended(7_342), "");
+    ends(&rt, tries.seen.ended(7_342));
 }
 
 #[test]
@@ -438,7 +439,7 @@ fn strings_and_appends_ask_for_memory_once(rt: HostRuntime) {
         tries.append(case, granted, &[], (0, ""));
     }
     tries.appends(&[0xab, 0xac], &[0xcd; 8], b"abac", b"CDCDCDCDCDCDCDCD");
-    assert_eq!(rt; tries.seen.ended(53), "");
+    ends(&rt, tries.seen.ended(53));
 }
 
 #[test]
@@ -462,7 +463,7 @@ fn strings_and_append_reuse_capacity_preserving_unicode_prefix(rt: HostRuntime) 
         &repeated::<64>(b"ab"),
         &repeated::<64>(b"CD"),
     );
-    assert_eq!(rt; tries.seen.ended(52), "");
+    ends(&rt, tries.seen.ended(52));
 }
 
 #[test]
@@ -474,7 +475,7 @@ fn heapless_capacity_is_fallible_and_features_are_additive(rt: HostRuntime) {
     fixed::<1>(&mut tries.seen, Lower, &[0xab]);
     fixed::<0>(&mut tries.seen, Upper, &[0xab]);
     tries.string(Lower, 1, &[0xab]);
-    assert_eq!(rt; tries.seen.ended(6), "");
+    ends(&rt, tries.seen.ended(6));
 }
 
 fn documented(tries: &mut Tries, case: CheckCase, src: &[u8], want: Want<'_>) {
@@ -498,7 +499,7 @@ fn examples_of_decode_rs(rt: HostRuntime) {
     documented(&mut tries, Either, b"0x01", invalid(1, b'x'));
     documented(&mut tries, Upper, b"AB01", Ok(b"\xab\x01"));
     documented(&mut tries, Upper, b"ab01", invalid(0, b'a'));
-    assert_eq!(rt; tries.seen.ended(9), "");
+    ends(&rt, tries.seen.ended(9));
 }
 
 #[test]
@@ -518,5 +519,5 @@ fn examples_of_encode_rs_and_lib_rs(rt: HostRuntime) {
     let given = Given::new(Lower, 0, b"\0\xab");
     tries.append_gives(given, (64, "id: "), Ok(b"00ab"));
     documented(&mut tries, Either, b"00aB", Ok(b"\0\xab"));
-    assert_eq!(rt; tries.seen.ended(1), "");
+    ends(&rt, tries.seen.ended(1));
 }

@@ -1,5 +1,6 @@
 //! Padded texts, and what sinks take of them.
 
+use crate::ends;
 use crate::sinks::{Mode, Put, Taken};
 use crate::sized::multiples;
 use hex_codec::Group;
@@ -222,7 +223,7 @@ fn examples_of_format_rs(rt: HostRuntime) {
     tries.pads(format("#0X").wide(10, ' '), &SMALL, b"0x0000ABCD");
     tries.pads(format("#X"), &SMALL, b"0x00ABCD");
     tries.pads(format("#X"), &SMALL[..2], b"0x00AB");
-    assert_eq!(rt; tries.seen.ended(5), "");
+    ends(&rt, tries.seen.ended(5));
 }
 
 // Prints four sources by the format `like` with each word of `letters`.
@@ -248,7 +249,7 @@ fn flags_match_standard_integer_padding(rt: HostRuntime) {
     for width in [0, 1, 2, 3, 7, 10, 19, 22, 67, 72] {
         styles(&mut tries, "^+#X", plain.wide(width, DIAMOND));
     }
-    assert_eq!(rt; tries.seen.ended(128), "");
+    ends(&rt, tries.seen.ended(128));
 }
 
 #[test]
@@ -262,7 +263,7 @@ fn empty_sign_prefix_and_zero_padding_are_explicit(rt: HostRuntime) {
     let text = "💠0xAB💠💠".as_bytes();
     tries.pads(format("^#X").wide(7, DIAMOND), &[0xab], text);
     tries.pads(format(""), &[0xab], b"ab");
-    assert_eq!(rt; tries.seen.ended(7), "");
+    ends(&rt, tries.seen.ended(7));
 }
 
 #[test]
@@ -289,7 +290,7 @@ fn digits_in_pieces(rt: HostRuntime) {
     tries.pads(styled("+#X", dots), &two, "💠💠+0xAB.CD".as_bytes());
     tries.pads(styled("0", singles.wide(9, ' ')), &two, b"0000ab:cd");
     tries.pads(styled("#0", singles.wide(6, ' ')), &two, b"0xab:cd");
-    assert_eq!(rt; tries.seen.ended(16), "");
+    ends(&rt, tries.seen.ended(16));
 }
 
 #[test]
@@ -302,7 +303,7 @@ fn sixteen_bytes_as_xxd_prints_them(rt: HostRuntime) {
     tries.pads(format("").grouped(2, b' '), &bytes, text);
     let text = b"00010203 04050607 08090a0b 0c0d0e0f";
     tries.pads(format("").grouped(4, b' '), &bytes, text);
-    assert_eq!(rt; tries.seen.ended(3), "");
+    ends(&rt, tries.seen.ended(3));
 }
 
 #[test]
@@ -328,7 +329,7 @@ fn widths_about_the_length_and_pieces_of_each_length(rt: HostRuntime) {
             tries.pad(format("").grouped(every, b'_'), bytes);
         }
     }
-    assert_eq!(rt; tries.seen.ended(464), "");
+    ends(&rt, tries.seen.ended(464));
 }
 
 #[test]
@@ -345,7 +346,7 @@ fn bytes_keep_their_order_and_leading_zeroes(rt: HostRuntime) {
         tries.pad(format("X"), bytes);
     }
     tries.shows(&[0, 0, 0xab, 0], b"0000ab00");
-    assert_eq!(rt; tries.seen.ended(58), "");
+    ends(&rt, tries.seen.ended(58));
 }
 
 #[test]
@@ -359,7 +360,7 @@ fn padded_texts_of_each_length(rt: HostRuntime) {
         let bytes = first(&units, len);
         tries.pad(format("").grouped(3, b':'), bytes);
     }
-    assert_eq!(rt; tries.seen.ended(6_144), "");
+    ends(&rt, tries.seen.ended(6_144));
 }
 
 #[test]
@@ -371,7 +372,7 @@ fn a_full_slice_has_the_beginning(rt: HostRuntime) {
         tries.takes(None, 10, format, &[0xab]);
         tries.takes(None, 10, format.grouped(1, b':'), &[0xab, 0xcd]);
     }
-    assert_eq!(rt; tries.seen.ended(9), "");
+    ends(&rt, tries.seen.ended(9));
 }
 
 #[test]
@@ -386,7 +387,7 @@ fn partial_writer_errors_preserve_the_exact_accepted_prefix(rt: HostRuntime) {
         tries.fails(len + 1, 1, format, &LARGE[..513]);
         tries.takes(Some(Mode::OneByte), len, format, &LARGE[..513]);
     }
-    assert_eq!(rt; tries.seen.ended(12_759), "");
+    ends(&rt, tries.seen.ended(12_759));
 }
 
 #[test]
@@ -398,7 +399,7 @@ fn writer_errors_stop_immediately_and_preserve_accepted_text(rt: HostRuntime) {
         tries.fails(1_101, 1, format("^+#X").wide(width, DIAMOND), bytes);
         tries.fails(1_101, 1, format("+#X"), bytes);
     }
-    assert_eq!(rt; tries.seen.ended(61_656), "");
+    ends(&rt, tries.seen.ended(61_656));
 }
 
 // An empty text meets no failure, and any other fails if nothing is taken. Sinks then fail among few grouped digits,
@@ -415,7 +416,7 @@ fn failures_among_digits(rt: HostRuntime) {
     let long = Some(Mode::RefusesLong);
     tries.takes(long, 1_100, format(""), &LARGE[..513]);
     tries.takes(long, 1_100, format("").grouped(520, b':'), &LARGE[..530]);
-    assert_eq!(rt; tries.seen.ended(279), "");
+    ends(&rt, tries.seen.ended(279));
 }
 
 // A put into a `WriterSink` is one write of the whole piece, also of an empty one, and no flush.
@@ -439,7 +440,7 @@ fn a_put_is_one_write(rt: HostRuntime) {
         let given = Given::new(CheckCase::None, count, &[]);
         seen.is(given, "put", is_put(rt.alloc(), count), true);
     }
-    assert_eq!(rt; seen.ended(2_049), "");
+    ends(&rt, seen.ended(2_049));
 }
 
 #[test]
@@ -457,5 +458,5 @@ fn a_group_has_pieces_and_an_ascii_separator_that_is_no_digit(rt: HostRuntime) {
             seen.is(given, "Group::new", is_so, true);
         }
     }
-    assert_eq!(rt; seen.ended(1_280), "");
+    ends(&rt, seen.ended(1_280));
 }

@@ -1,6 +1,7 @@
 //! Families of sources that are checked, searched, and decoded whole, also into a buffer that is discarded if decoding
 //! fails.
 
+use crate::ends;
 use crate::slices::{POLICIES, Slices};
 use hex_codec::hex_check_with_case;
 use hex_core::CheckCase::{self, Lower, None as Either, Upper};
@@ -41,7 +42,7 @@ fn forced_backends_check_every_byte_in_every_lane_before_writing(rt: HostRuntime
             each_byte(&mut slices, case, first(&src, len));
         }
     }
-    assert_eq!(rt; slices.ended(1_188_864), "");
+    ends(&rt, slices.ended(1_188_864));
 }
 
 // The maps that hash a lane also see three bits of its neighbour, so each digit is at each offset in a word of four.
@@ -55,7 +56,7 @@ fn each_byte_among_all_digits(rt: HostRuntime) {
     ] {
         each_byte(&mut slices, case, &repeated::<258>(unit));
     }
-    assert_eq!(rt; slices.ended(198_144), "");
+    ends(&rt, slices.ended(198_144));
 }
 
 #[test]
@@ -71,7 +72,7 @@ fn a_byte_that_is_no_digit_before_any_byte(rt: HostRuntime) {
             }
         }
     }
-    assert_eq!(rt; slices.ended(182_784), "");
+    ends(&rt, slices.ended(182_784));
 }
 
 // The byte has up to 299 digits on either side, so that it also falls into overlapping blocks and the tail of a loop.
@@ -87,7 +88,7 @@ fn a_byte_that_is_no_digit_at_each_place_of_each_length(rt: HostRuntime) {
             slices.reads(case, joined(&parts, &mut src));
         }
     }
-    assert_eq!(rt; slices.ended(270_000), "");
+    ends(&rt, slices.ended(270_000));
 }
 
 // If decoding fails, `decode_owned` leaves the bytes of whole blocks in its buffer.
@@ -116,7 +117,7 @@ fn a_refusal_leaves_whole_blocks(rt: HostRuntime) {
     for case in POLICIES {
         slices.reads(case, &with([b'7'; 64], 1, 0xff));
     }
-    assert_eq!(rt; slices.ended(10), "");
+    ends(&rt, slices.ended(10));
 }
 
 #[test]
@@ -128,7 +129,7 @@ fn digits_alone_are_decoded_alike(rt: HostRuntime) {
     }
     slices.reads(Either, first(&text, 2_048));
     slices.reads(Either, &text);
-    assert_eq!(rt; slices.ended(303), "");
+    ends(&rt, slices.ended(303));
 }
 
 // Tries a source that repeats one pair of bytes, with room for 34 bytes.
@@ -160,7 +161,7 @@ fn every_character_pair_in_scalar_and_vector_sized_inputs(rt: HostRuntime) {
             }
         }
     }
-    assert_eq!(rt; slices.ended(589_824), "");
+    ends(&rt, slices.ended(589_824));
 }
 
 // Digits of each length up to 300, and an invalid byte with up to 18 digits behind it.
@@ -184,7 +185,7 @@ fn each_length_is_checked(rt: HostRuntime) {
             }
         }
     }
-    assert_eq!(rt; slices.ended(16_920), "");
+    ends(&rt, slices.ended(16_920));
 }
 
 #[test]
@@ -205,5 +206,5 @@ fn arbitrary_character_checks_agree(rt: HostRuntime) {
             );
         }
     }
-    assert_eq!(rt; slices.ended(49_158), "");
+    ends(&rt, slices.ended(49_158));
 }

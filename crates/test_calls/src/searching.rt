@@ -1,5 +1,6 @@
 //! The values of bytes, the list of plans, and the search for the first invalid byte, with the number of its steps.
 
+use crate::ends;
 use crate::slices::{POLICIES, plans};
 use hex_core::CheckCase::{self, Lower, None as Either, Upper};
 use hex_core::{Probe, SliceProbe, backends, covered, digit_value, locate};
@@ -33,7 +34,7 @@ fn each_byte_has_its_value_or_none(rt: HostRuntime) {
             seen.finds(Given::new(case, 0, &[byte]), "digit_value", got, want);
         }
     }
-    assert_eq!(rt; seen.ended(768), "");
+    ends(&rt, seen.ended(768));
 }
 
 #[test]
@@ -124,7 +125,7 @@ fn the_search_takes_few_steps(rt: HostRuntime) {
             2,
         );
     }
-    assert_eq!(rt; seen.ended(27), "");
+    ends(&rt, seen.ended(27));
 }
 
 // In a source of at most 64 bytes the search looks at each byte up to the invalid one. In a longer one it tests blocks
@@ -148,7 +149,7 @@ fn the_search_tests_blocks(rt: HostRuntime) {
             finds(&mut seen, case, refused, Some(len), tests, len % 64 + 1);
         }
     }
-    assert_eq!(rt; seen.ended(1_536), "");
+    ends(&rt, seen.ended(1_536));
 }
 
 // Tries whether each plan covers a source by `tests` tests of blocks, without looking at a byte.
@@ -185,5 +186,5 @@ fn a_source_is_covered_by_blocks(rt: HostRuntime) {
         covers(&mut seen, first(&zeros, 65 + more), 2);
         covers(&mut seen, first(&with(zeros, more, b'!'), more + 130), 1);
     }
-    assert_eq!(rt; seen.ended(134), "");
+    ends(&rt, seen.ended(134));
 }

@@ -2,6 +2,7 @@
 
 ghost use Rattle.std.specs.Prelude.{◌<◌};
 
+use crate::ends;
 use crate::slices::POLICIES;
 use hex_codec::{heapless_08, hex_decode_array, hex_decode_array_with_case};
 use hex_core::CheckCase::{Lower, None as Either, Upper};
@@ -125,7 +126,7 @@ fn arrays_reject_lengths_before_characters_and_preserve_byte_diagnostics(rt: Hos
     for case in POLICIES {
         array::<4>(&mut seen, case, b"0A0bg!ff");
     }
-    assert_eq!(rt; seen.ended(10), "");
+    ends(&rt, seen.ended(10));
 }
 
 // Tries the digits of `N` bytes by each policy, and two digits more and fewer.
@@ -148,7 +149,7 @@ fn about_length<const N: usize>(seen: &mut Seen)
 fn arrays_cover_empty_hashes_and_vector_boundaries(rt: HostRuntime) {
     let mut seen = Seen::new();
     for_sizes!(about_length(&mut seen): 0 1 4 7 8 15 16 17 31 32 33 63 64 65 129 256);
-    assert_eq!(rt; seen.ended(95), "");
+    ends(&rt, seen.ended(95));
 }
 
 fn of_both_cases<const N: usize>(seen: &mut Seen)
@@ -165,7 +166,7 @@ fn arrays_of_digits_of_both_cases(rt: HostRuntime) {
     array::<2>(&mut seen, Lower, b"01AB");
     array::<2>(&mut seen, Upper, b"01ab");
     for_sizes!(of_both_cases(&mut seen): 4 7 8 15 16 17 31 32 33 63 64 65 129 256);
-    assert_eq!(rt; seen.ended(17), "");
+    ends(&rt, seen.ended(17));
 }
 
 // Tries each number of bytes up to eight more than fit, and one more than the capacity.
@@ -184,7 +185,7 @@ fn about_capacity<const N: usize>(seen: &mut Seen)
 fn heapless_checks_exact_odd_and_vector_boundary_capacities(rt: HostRuntime) {
     let mut seen = Seen::new();
     for_sizes!(about_capacity(&mut seen): 0 1 2 3 15 16 17 31 32 33 127 128 129 513);
-    assert_eq!(rt; seen.ended(1_318), "");
+    ends(&rt, seen.ended(1_318));
 }
 
 #[test]
@@ -196,5 +197,5 @@ fn examples_of_heapless_08_rs(rt: HostRuntime) {
     fixed_gives::<4>(&mut seen, Upper, b"\xab\x01", Ok(b"AB01"));
     fixed_gives::<3>(&mut seen, Lower, b"\xab\x01", too_small);
     fixed_gives::<0>(&mut seen, Lower, b"", Ok(b""));
-    assert_eq!(rt; seen.ended(5), "");
+    ends(&rt, seen.ended(5));
 }

@@ -1,5 +1,6 @@
 //! Families of streams. Each ends as it must, after no more reads and puts than it needs.
 
+use crate::ends;
 use crate::grouped::{ANY, LOWER, UPPER, text_len};
 use crate::sinks::{Mode, Taking};
 use hex_codec::Group;
@@ -257,7 +258,7 @@ fn streams_of_several_chunks(rt: HostRuntime) {
     }
     decode(ANY, 0).of(b"0", b"0").by(1, 0, 0).run(s);
     encode(LOWER, 0).of(b"0", b"0").by(1, 0, 0).run(s);
-    assert_eq!(rt; seen.ended(35), "");
+    ends(&rt, seen.ended(35));
 }
 
 #[test]
@@ -295,7 +296,7 @@ fn streams_in_groups(rt: HostRuntime) {
     }
     let none = grouped(LOWER, 0, 3, b':').of(b"0", b"0");
     none.by(1, 0, 0).run(s);
-    assert_eq!(rt; seen.ended(35), "");
+    ends(&rt, seen.ended(35));
 }
 
 // What `xxd -p` prints of the bytes 0 to 63.
@@ -330,7 +331,7 @@ fn white_space_among_digits_is_skipped(rt: HostRuntime) {
         let some = spaced(ANY, 32_000).by(4_096, 0, 9_000);
         some.after(failures).run(s);
     }
-    assert_eq!(rt; seen.ended(14), "");
+    ends(&rt, seen.ended(14));
 }
 
 // Tries `count` digits with the byte `byte` at a place.
@@ -357,7 +358,7 @@ fn invalid_bytes_in_each_chunk(rt: HostRuntime) {
     for place in [7, 8_199, 16_391, 20_999, 21_000] {
         invalid(s, ANY, 21_001, place, b'g', 8_192);
     }
-    assert_eq!(rt; seen.ended(47), "");
+    ends(&rt, seen.ended(47));
 }
 
 #[test]
@@ -382,7 +383,7 @@ fn odd_lengths_and_reads_that_fail(rt: HostRuntime) {
     some.after(7).fails().run(s);
     let unit: [u8; 21_000] = with(repeated(digits(ANY)), 8_200, b'g');
     decode(ANY, 21_000).of(&unit, BYTES).fails().run(s);
-    assert_eq!(rt; seen.ended(30), "");
+    ends(&rt, seen.ended(30));
 }
 
 #[test]
@@ -411,7 +412,7 @@ fn full_sinks_end_streams(rt: HostRuntime) {
     let unit: [u8; 21_000] = with(repeated(digits(ANY)), 8_192, b'g');
     let some = decode(ANY, 21_000).of(&unit, BYTES).by(8_192, 0, 4_096);
     some.after(5).run(s);
-    assert_eq!(rt; seen.ended(28), "");
+    ends(&rt, seen.ended(28));
 }
 
 const CASES: [(CheckCase, &[u8]); 3] = [(ANY, b"0aFf"), (LOWER, b"0aff"), (UPPER, b"0AFF")];
@@ -441,7 +442,7 @@ fn streams_of_each_length(rt: HostRuntime) {
     for count in 1..=2_048 {
         each_call(&mut seen, count);
     }
-    assert_eq!(rt; seen.ended(30_720), "");
+    ends(&rt, seen.ended(30_720));
 }
 
 #[test]
@@ -457,5 +458,5 @@ fn streams_of_millions_of_bytes_and_many_interruptions(rt: HostRuntime) {
     let some = lines(LOWER, 6_000_000);
     some.by(100_000, 0, 20_000_000).run(s);
     decode(ANY, 100).by(7, 100_000, 50).run(s);
-    assert_eq!(rt; seen.ended(7), "");
+    ends(&rt, seen.ended(7));
 }

@@ -3,6 +3,7 @@
 use crate::adapter::{
     Adapter, Answer, NO_MEMORY, ROOT, invalid, mismatch, modules, ok, over_bound,
 };
+use crate::ends;
 use crate::tries::{Case, Tries};
 use faster_hex::AdapterError::{Codec, InvalidLength, InvalidPrefix, NotText};
 use faster_hex::Error::OutputTooSmall;
@@ -34,7 +35,7 @@ fn examples_of_serde_rs(rt: HostRuntime) {
         tries.reads(by.field("bytes"), bytes, ok(&[0x12, 0x34]));
         tries.reads_array::<2>(by.field("id"), id, ok(&[0x12, 0x34]));
     }
-    assert_eq!(rt; tries.seen.ended(40), "");
+    ends(&rt, tries.seen.ended(40));
 }
 
 #[test]
@@ -46,7 +47,7 @@ fn examples_of_lib_rs(rt: HostRuntime) {
     tries.reads_array::<2>(option.field("extra"), record, ok(&[0xcd, 2]));
     tries.writes(ROOT, Some(&[0xab, 1]), br#""0xab01""#);
     tries.writes(option, Some(&[0xcd, 2]), br#""cd02""#);
-    assert_eq!(rt; tries.seen.ended(4), "");
+    ends(&rt, tries.seen.ended(4));
 }
 
 #[test]
@@ -68,7 +69,7 @@ fn other_fields_and_texts(rt: HostRuntime) {
     let lower = Adapter::of(WireFormat::WITHPFX_LOWERCASE);
     tries.reads(lower, br#""0xAB""#, invalid(0, b'A'));
     tries.reads_array::<2>(option, br#""cd02""#, ok(&[0xcd, 2]));
-    assert_eq!(rt; tries.seen.ended(9), "");
+    ends(&rt, tries.seen.ended(9));
 }
 
 // Compares what the error of an answer prints, whatever flags the format string has.
@@ -111,5 +112,5 @@ fn errors_print(rt: HostRuntime) {
     prints(tries, invalid(usize::MAX, 0xff), text);
     prints(tries, invalid(0, b'g'), "invalid hex byte 0x67 at index 0");
     prints(tries, invalid(0, 0xc3), "invalid hex byte 0xc3 at index 0");
-    assert_eq!(rt; seen.seen.ended(14), "");
+    ends(&rt, seen.seen.ended(14));
 }

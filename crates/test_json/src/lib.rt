@@ -2,6 +2,9 @@
 #![tactic(auto)]
 
 #[cfg(test)]
+use std::process::Abort;
+
+#[cfg(test)]
 mod adapter;
 #[cfg(test)]
 mod examples;
@@ -13,3 +16,9 @@ mod modules;
 mod reading;
 #[cfg(test)]
 mod tries;
+
+// Ends a test. `text` is about the first call that gave a wrong result, and must be empty.
+#[cfg(test)]
+fn ends(rt: &impl Abort, text: &str) {
+    assert_eq!(rt; text, "");
+}

@@ -1,6 +1,7 @@
 //! How often adapters allocate, and long texts.
 
 use crate::adapter::{Adapter, NO_MEMORY, ROOT, invalid, modules, ok, over_bound, quoted};
+use crate::ends;
 use crate::modules::read_by;
 use crate::reading::multiples;
 use crate::tries::{Case, Tries};
@@ -78,7 +79,7 @@ fn a_reading_asks_for_memory_at_most_once(rt: HostRuntime) {
             asks(&mut tries, 1, Case::new(ROOT, max, &text, ok(src)));
         }
     }
-    assert_eq!(rt; tries.seen.ended(52), "");
+    ends(&rt, tries.seen.ended(52));
 }
 
 // Makes the text of bytes, without an allocation if the text is empty.
@@ -109,7 +110,7 @@ fn each_format_asks_for_memory_once_at_each_length(rt: HostRuntime) {
     }
     let lower = Adapter::of(WireFormat::WITHPFX_LOWERCASE);
     makes_text(&mut tries, lower, &listed::<69_000>(0));
-    assert_eq!(rt; tries.seen.ended(172_082), "");
+    ends(&rt, tries.seen.ended(172_082));
 }
 
 fn long(tries: &mut Tries, by: Adapter) {
@@ -125,7 +126,7 @@ fn more_than_64_mib_of_digits_are_read_as_they_were_written(rt: HostRuntime) {
     for by in modules().into_iter().take(6) {
         long(&mut tries, by);
     }
-    assert_eq!(rt; tries.seen.ended(6), "");
+    ends(&rt, tries.seen.ended(6));
 }
 
 #[test]
@@ -134,5 +135,5 @@ fn more_than_64_mib_of_digits_are_read_by_the_other_modules(rt: HostRuntime) {
     for by in modules().into_iter().skip(6) {
         long(&mut tries, by);
     }
-    assert_eq!(rt; tries.seen.ended(6), "");
+    ends(&rt, tries.seen.ended(6));
 }

@@ -5,6 +5,7 @@ ghost use Rattle.std.specs.Prelude.{◌<◌};
 use crate::adapter::{
     Adapter, Answer, adapters, invalid, mismatch, modules, ok, over_bound, quoted,
 };
+use crate::ends;
 use crate::tries::Tries;
 use faster_hex::AdapterError::{InvalidLength, InvalidPrefix, NotText};
 use faster_hex::CheckCase;
@@ -109,7 +110,7 @@ fn each_format_reads_texts_of_few_bytes(rt: HostRuntime) {
         lengths(&mut tries, by);
         refuses(&mut tries, by);
     }
-    assert_eq!(rt; tries.seen.ended(2_040), "");
+    ends(&rt, tries.seen.ended(2_040));
 }
 
 // Tries each byte that JSON shows as it is behind a digit, and other bytes at each of 64 places.
@@ -141,7 +142,7 @@ fn each_module_names_the_first_byte_that_is_no_digit(rt: HostRuntime) {
     for by in modules() {
         names_first(&mut tries, by);
     }
-    assert_eq!(rt; tries.seen.ended(3_204), "");
+    ends(&rt, tries.seen.ended(3_204));
 }
 
 fn both_ways(tries: &mut Tries, by: Adapter, src: &[u8]) {
@@ -177,5 +178,5 @@ fn each_module_reads_what_it_writes(rt: HostRuntime) {
             tries.writes(by, None, b"null");
         }
     }
-    assert_eq!(rt; tries.seen.ended(2_514), "");
+    ends(&rt, tries.seen.ended(2_514));
 }
