@@ -26,7 +26,7 @@ level == 5 && /^define .*@"hex_core::widths::look_up_row_of_64"\(/ {
     is_replaced = 1
 }
 # At level 5, the functions that look up long rows, and two functions with all short paths, are inlined, as those of the
-# other builds are. The toolchain ignores their `inline`, because with both maps they would be too long.
+# other builds are. They have no `inline` in the source, because `Backend::check` would then be too long to be inlined.
 level == 5 && /^define internal .*@"hex_core::(plain::(check|decode)_by_long_rows|widths::look_up_long.*)"\(/ {
     hints += sub(/ #[0-9]+ \{$/, " alwaysinline&")
 }

@@ -131,7 +131,7 @@ template <class Digits> [[nodiscard]] std::vector<unsigned char> decode_spaced(c
     return bytes;
 }
 
-/* Names the build that the next call uses, as faster_hex_build does. */
+/* Names the build that the library has chosen, as faster_hex_build does. */
 [[nodiscard]] inline std::string_view build() noexcept {
     return faster_hex_build();
 }
