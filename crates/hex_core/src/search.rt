@@ -114,9 +114,9 @@ fn look_from<P: Probe>(p: &mut P, start: usize) -> Option<usize>
 /// valid.
 ///
 /// If the source has at most 64 bytes, it looks at each byte from index 0 on. Otherwise it tests
-/// whole blocks of 64 bytes in order until one fails. It then looks at each byte from the start of
-/// that block on. If all whole blocks passed, it looks at each byte after them. The looks end at
-/// the first invalid byte. So there are at most `len / 64` tests and at most 64 looks.
+/// whole blocks of 64 bytes in order until one fails, and then looks at each byte from the start of
+/// that block on, or from the end of the last whole block if all of them passed. It ends at the
+/// first invalid byte, so it makes at most `len / 64` tests and at most 64 looks.
 ///
 /// Requires the block to be 64. The number of tests plus the length of the source must fit `usize`,
 /// and so must the number of looks plus 64.
