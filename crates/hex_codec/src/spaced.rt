@@ -27,8 +27,8 @@ const LONGEST_RUN: usize = 192;
 /// which is half the number of digits.
 ///
 /// White space is a space, tab, newline, form feed or carriage return. So this function reads what
-/// `xxd -p` and `openssl` print. The bytes of `dst` after the written ones are unchanged. If `src`
-/// has no digits, the result is 0 and nothing changes.
+/// `xxd -p` and `openssl rand -hex` print. The bytes of `dst` after the written ones are unchanged.
+/// If `src` has no digits, the result is 0 and nothing changes.
 ///
 /// The time depends on where the white space is.
 ///

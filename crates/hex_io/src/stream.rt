@@ -79,7 +79,7 @@ impl From<WriteFault> for StreamFault {
 ///
 /// # Errors
 ///
-/// If an error comes, the bytes of earlier chunks were already put.
+/// After an error, the bytes of earlier chunks have already been put.
 ///
 /// - [`StreamFault::Read`] if a read failed.
 /// - [`StreamFault::Codec`] with [`Error::InvalidChar`] if `case` does not accept a byte as a
@@ -111,7 +111,7 @@ pub fn decode_stream<R: Read, S: Sink>(
 }
 
 /// Does the same as [`decode_stream`], but skips ASCII white space among the digits. So it reads
-/// what `xxd -p` and `openssl` print.
+/// what `xxd -p` and `openssl rand -hex` print.
 ///
 /// # Errors
 ///
@@ -172,7 +172,7 @@ fn decode_by_decoder<R: Read, S: Sink>(
 ///
 /// # Errors
 ///
-/// If an error comes, the digits of earlier chunks were already put.
+/// After an error, the digits of earlier chunks have already been put.
 ///
 /// - [`StreamFault::Read`] if a read failed.
 /// - [`StreamFault::Codec`] with [`Error::Overflow`] if the number of bytes exceeds `usize`.

@@ -77,8 +77,8 @@ impl Decoder {
     }
 
     /// Returns a decoder like [`new`](Decoder::new) that skips ASCII white space, even between the
-    /// two digits of a pair. It reads what `xxd -p` and `openssl` print, and lines that a mail
-    /// program has wrapped.
+    /// two digits of a pair. It reads what `xxd -p` and `openssl rand -hex` print, and lines that a
+    /// mail program has wrapped.
     ///
     /// White space is a space, tab, newline, form feed or carriage return.
     ///
