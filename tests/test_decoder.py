@@ -185,8 +185,9 @@ def differences(state, done, memory, is_wide):
             yield f"flag {flag}: the model has another one"
 
 
-def faults(image, processor, chance, at, is_wide):
-    """What is wrong with how an encoding is read or executed, as a list, or None if it is refused or jumps."""
+def faults(image, processor, chance, at, level):
+    """What is wrong with how an encoding is read or executed, as a list, or None if it is refused, jumps, or needs a
+    higher level than the processor has."""
     try:
         read = image.instruction(at)
         given, memory = any_state(chance)
@@ -195,9 +196,9 @@ def faults(image, processor, chance, at, is_wide):
         return None
     except Exception as why:
         return [f"{image.texts[at]} is neither executed nor refused: {why!r}"]
-    if state is None:
+    if state is None or PROCESSOR.level_of(read) > level:
         return None
-    place = STACK_AT + BELOW
+    place, is_wide = STACK_AT + BELOW, level > 3
     ctypes.memmove(place, memory, len(memory))
     caught = processor.run(ctypes.c_void_p(at), len(read.code), ctypes.byref(given), is_wide)
     after = ctypes.string_at(place, len(memory))
@@ -223,13 +224,14 @@ def test_random_encodings(tmp_path, processor):
     if not has("avx2", "bmi1", "bmi2"):
         pytest.skip("the processor has no AVX2")
     is_wide = has("avx512f", "avx512bw", "avx512dq", "avx512vl")
+    level = 3 + is_wide + (is_wide and has("avx512vbmi"))
     chance, end, executed, found = random.Random(SEED), time.monotonic() + SECONDS, {}, []
     while time.monotonic() < end:
         slots = b"".join(it.ljust(SLOT, NOP) for it in encodings(chance, is_wide))
         image = imaged(tmp_path, slots)
         ctypes.memmove(CODE, slots, len(slots))
         for at in range(CODE, CODE + len(slots), SLOT):
-            said = faults(image, processor, chance, at, is_wide)
+            said = faults(image, processor, chance, at, level)
             found += said or []
             if said == []:
                 name = image.instruction(at).name
