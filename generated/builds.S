@@ -2,7 +2,8 @@
 #include "../crates/faster_hex_c/assembly.h"
 
 /* For ELF: no stack is executed, every place where an indirect branch may come out is marked, and no return address
- * is changed. The note speaks of all of an object, so it is not in elf.inc, which Rust takes beside its own. */
+ * is changed. The note holds for a whole object. It is not in elf.inc, because rustc puts that file into objects with
+ * other code. */
 #ifdef __ELF__
 	.section .note.GNU-stack,"",%progbits
 #if defined __LP64__ && (defined __x86_64__ || defined __aarch64__)

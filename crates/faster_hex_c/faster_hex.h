@@ -141,9 +141,10 @@ struct faster_hex_answer faster_hex_decode_with_case(const void *src, size_t len
                                                      void *dst, size_t room, uint8_t policy);
 
 /* Decodes digits under a policy, and skips ASCII white space among them, also between the two digits of a byte. White
- * space is a space, tab, newline, form feed or carriage return. So this call decodes what `xxd -p` and `openssl` print.
- * The number of digits is the number of bytes that are not white space, and half of it is the room required. After
- * FASTER_HEX_INVALID_CHAR, number is the index in the source. The call is not constant time: do not use it for keys.
+ * space is a space, tab, newline, form feed or carriage return. So this call decodes what `xxd -p` and
+ * `openssl rand -hex` print. The number of digits is the number of bytes that are not white space, and half of it is the
+ * room required. After FASTER_HEX_INVALID_CHAR, number is the index in the source. The call is not constant time: do not
+ * use it for keys.
  * Errors, in the order tested: FASTER_HEX_UNKNOWN_POLICY, FASTER_HEX_ODD_LENGTH, FASTER_HEX_OUTPUT_TOO_SMALL,
  * FASTER_HEX_INVALID_CHAR. */
 FASTER_HEX_MUST_USE

@@ -176,7 +176,7 @@ def number(least, name, text):
 
 
 def arguments(words):
-    about = "Executes the library's machine code symbolically, for sources of every length."
+    about = "Executes the library's machine code symbolically: digits alone at every length, grouped text at some."
     ends = "The status is 0 if all is shown, 1 if something is not, 2 for a file or words that nothing is checked of."
     parser = argparse.ArgumentParser("python3 -m machine", description=about, epilog=ends)
     jobs = argparse.ArgumentParser(add_help=False)

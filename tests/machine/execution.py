@@ -2,9 +2,9 @@
 
 A path may access the source, the part of the destination that the call writes, the stack frame, and constants. Any
 other access is refused. A branch may depend on bytes of the source only if its condition is equivalent to the statement
-that some of them are all valid digits, or to its negation, which Z3 decides. An address may depend on a byte only to
-look it up in a table of constants, and only after some byte is known to be no digit, or in a grouped call. loops.py
-explains why the paths that are followed stand for all executions."""
+that all bytes of some part of it are valid digits, or to its negation, which Z3 decides. An address may depend on a
+byte only to look it up in a table of constants, and only after some byte is known to be no digit, or in a grouped call.
+loops.py explains why the paths that are followed stand for all executions."""
 import functools
 import re
 
