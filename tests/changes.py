@@ -32,6 +32,7 @@ def changed(build, function, rules=()):
     for rule in rules:
         number, pattern, instead = re.fullmatch(r"(\d+) (.*?) => ?(.*)", rule).groups()
         fitting = [at for at, it in enumerate(lines) if re.fullmatch(pattern, it)]
+        assert fitting, f"no line is like {pattern}"
         for at in fitting if number == "0" else [fitting[int(number) - 1]]:
             line = lines[at]
             lines[at] = re.sub(f"^{pattern}$", instead.replace(r"\0", r"\g<0>"), line).replace("; ", "\n")

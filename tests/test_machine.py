@@ -357,7 +357,7 @@ def test_anybodys_file(tmp_path, request, making):
 
 def test_wrong_archive(tmp_path):
     """If a call is not shown, the status is 1, and a line says why."""
-    assembled(tmp_path, changed("v3", "check", ["0 setb %al => movb $1,%al"]))
+    assembled(tmp_path, changed("v3", "check", ["1 sete %al => movb $1,%al"]))
     runs(["ar", "rcs", tmp_path / "wrong.a", tmp_path / "made.o"])
     done = checks(tmp_path / "wrong.a", "v3", "check", "8")
     assert done.returncode == 1 and "x86-64-v3 check: REFUSED: " in done.stdout, done.stdout
