@@ -200,10 +200,15 @@ static void count(bool holds) {
     else failed++;
 }
 
-/* Whether white space is at this index of a text in lines of `every` digits. Each third line ends with two bytes of
- * it. */
+/* Whether all lines of `every` digits end alike. */
+static bool is_regular(size_t every) {
+    return every % 4 == 0;
+}
+
+/* Whether white space is at this index of a text in lines of `every` digits. Unless they all end alike, each third line
+ * ends with two bytes of it. */
 static bool spaces(size_t at, size_t every) {
-    size_t line = 3 * every + 4, in_line = at % line;
+    size_t line = 3 * every + 3 + !is_regular(every), in_line = at % line;
     return in_line == line - 1 || (in_line % (every + 1) == every);
 }
 
@@ -214,7 +219,8 @@ static void fill(const struct job *it, uint8_t *text, unsigned turn) {
     for (size_t i = 0; i < it->len; i++) {
         unsigned mixed = (unsigned)(i * 73 + i / 7 + turn * 31);
         if (it->call == ENCODE || it->call == ENCODE_GROUPED) text[i] = (uint8_t)mixed;
-        else if (it->call == DECODE_SPACED && spaces(i, it->every)) text[i] = (uint8_t)SPACE[mixed % 5];
+        else if (it->call == DECODE_SPACED && spaces(i, it->every))
+            text[i] = (uint8_t)SPACE[(is_regular(it->every) ? turn : mixed) % 5];
         else if (it->call == DECODE_GROUPED && it->every != 0 && separates(i, it->every)) text[i] = it->sep;
         else text[i] = (uint8_t)letters[turn % 3][mixed % 16];
     }

@@ -102,6 +102,10 @@ fn survey(plan: Backend, src: &[u8], head: Lines, case: CheckCase) -> (usize, bo
     let mut count = head.count * head.len;
     let mut is_clean = true;
     'runs: while at < src.len() {
+        if src[at].is_ascii_whitespace() {
+            at += 1;
+            continue;
+        }
         let lines = lines_of(plan, &src[at..], case);
         if lines.count > 0 {
             at += lines.count * (lines.len + lines.gap);
@@ -117,26 +121,38 @@ fn survey(plan: Backend, src: &[u8], head: Lines, case: CheckCase) -> (usize, bo
     (count, is_clean)
 }
 
-// Returns the lines at the start of a source, as long as each has the digits and the white space of the
-// first one.
-#[inline(never)]
+// Returns the lines at the start of a source, as long as each has as many valid digits as the first one and
+// the same white space.
 fn lines_of(plan: Backend, src: &[u8], case: CheckCase) -> Lines
     ensures { AreLines case src.now result.len result.gap result.count }
 {
     let len = run_len(src) / 2 * 2;
     let gap = space_len(src, len);
-    // For usual lengths the compiler makes a loop of its own, in which the length is not compared again.
-    let count = match len {
-        0 => 0,
-        33..=64 => line_count(plan, src, len, gap, case),
-        65..=128 => line_count(plan, src, len, gap, case),
-        _ => line_count(plan, src, len, gap, case),
-    };
+    let count = line_count(plan, src, len, gap, case);
     Lines { len, gap, count }
 }
 
-#[inline(always)]
+// Returns the number of lines. For usual lengths the compiler makes a loop of its own, in which the length
+// is not compared again.
+#[inline(never)]
 fn line_count(plan: Backend, src: &[u8], len: usize, gap: usize, case: CheckCase) -> usize
+    requires even { len % 2 ≡ 0 }
+    requires inside { len + gap ≤ length src.now }
+    requires most { gap ≤ 2 }
+    requires space { unspaced (take gap (drop len src.now)) ≡ [] }
+    ensures { AreLines case src.now len gap result }
+{
+    match len {
+        0 => 0,
+        33..=64 => line_count_of(plan, src, len, gap, case),
+        65..=96 => line_count_of(plan, src, len, gap, case),
+        97..=128 => line_count_of(plan, src, len, gap, case),
+        _ => line_count_of(plan, src, len, gap, case),
+    }
+}
+
+#[inline(always)]
+fn line_count_of(plan: Backend, src: &[u8], len: usize, gap: usize, case: CheckCase) -> usize
     requires some { 0 < len }
     requires even { len % 2 ≡ 0 }
     requires inside { len + gap ≤ length src.now }
@@ -173,7 +189,6 @@ fn space_len(src: &[u8], at: usize) -> usize
 }
 
 // Returns whether the same bytes, of which there are at most two, are at both indices.
-#[inline(always)]
 fn is_same(src: &[u8], first: usize, second: usize, len: usize) -> bool
     requires first { first + len ≤ length src.now }
     requires second { second + len ≤ length src.now }
@@ -298,7 +313,8 @@ fn decode_lines(
     // As in `lines_of`, usual lengths have loops of their own.
     match lines.len {
         33..=64 => decode_lines_of(plan, src, dst, lines, case),
-        65..=128 => decode_lines_of(plan, src, dst, lines, case),
+        65..=96 => decode_lines_of(plan, src, dst, lines, case),
+        97..=128 => decode_lines_of(plan, src, dst, lines, case),
         _ => decode_lines_of(plan, src, dst, lines, case),
     }
 }

@@ -7,7 +7,7 @@ ghost use Rattle.hex_core.specs.Search.{first_invalid};
 ghost use Rattle.hex_core.specs.Text.{Spells, text};
 ghost use Rattle.hex_core.specs.inside.Blocks.{DecodesAt, HasRoom};
 
-use crate::decode::{decode_or_nothing, write_ends, write_two};
+use crate::decode::{decode_or_nothing, write_ends, write_front};
 use crate::digit::CheckCase;
 use crate::encode::{Interleaved, encode_blocks};
 use crate::lane_probe::check_lanes;
@@ -211,13 +211,25 @@ impl Backend {
             (Kind::Plain(Vectors::LookUp64), 33..=64) => write_ends::<LongRows, 32, 64, 16>(
                 src, dst, case,
             ),
-            (Kind::Plain(Vectors::LookUp64), 65..=128) => write_two::<LongRows>(src, dst, case),
+            (Kind::Plain(Vectors::LookUp64), 65..=128) => write_front::<LongRows, 64, 32>(
+                src, dst, case,
+            ),
             (Kind::Plain(_), 33..=64) => write_ends::<ShortRows, 32, 64, 16>(src, dst, case),
-            (Kind::Plain(_), 65..=128) => write_two::<ShortRows>(src, dst, case),
+            (Kind::Plain(_), 65..=96) => write_front::<ShortRows, 32, 16>(src, dst, case),
+            (Kind::Plain(_), 97..=128) => write_front::<ShortRows, 64, 32>(src, dst, case),
             _ => {
-                self.decode(src, dst, case);
+                self.decode_any_outlined(src, dst, case);
             }
         }
+    }
+
+    // `decode` as a function of its own, because `decode_valid` would not be inlined if it contained it.
+    #[inline(never)]
+    fn decode_any_outlined(self, src: &[u8], dst: &mut [u8], case: CheckCase) -> bool
+        requires { length src.now ≡ 2 * length dst.old }
+        ensures { DecodesWhole case src.now dst.old dst.new result }
+    {
+        self.decode(src, dst, case)
     }
 
     // Does the same as `decode` for more than `MOST_INLINE` digits. Its code is inline if the plan is `plain`,

@@ -204,17 +204,27 @@ where
     Simd::<u8, HALF>::from_slice(&bytes[HALF..]).copy_to_slice(&mut dst[end - HALF..]);
 }
 
-/// Decodes 64 to 128 valid digits over all of `dst`.
+/// Decodes 64 to `64 + N` valid digits over all of `dst`. The first vector has 64 digits, and the last
+/// one has `N`.
 #[inline(always)]
-pub fn write_two<M: Nibbles<64>>(src: &[u8], dst: &mut [u8], case: CheckCase)
-    requires twice { length src.now ≡ 2 * length dst.old }
-    requires covered { EndsCover 64 src.now }
+pub fn write_front<M, const N: usize, const HALF: usize>(
+    src: &[u8],
+    dst: &mut [u8],
+    case: CheckCase,
+)
+where
+    M: Nibbles<64> + Nibbles<N>,
+    Lanes: Pack<N, HALF>,
+    requires sizes { Halves N HALF src.now dst.old }
+    requires least { 64 ≤ length src.now }
+    requires last { N ≤ length src.now }
+    requires most { length src.now ≤ 64 + N }
     requires valid { first_invalid case src.now ≡ None }
     ensures { Spells case src.now dst.new }
 {
     let end = dst.len();
     write_at::<M, 64, 32>(src, dst, 0, case);
-    write_at::<M, 64, 32>(src, dst, end - 32, case);
+    write_at::<M, N, HALF>(src, dst, end - HALF, case);
 }
 
 // Returns the values of the `N` bytes from index `at` on, and a number of at least 16 for each
