@@ -274,7 +274,9 @@ fn decode_runs(plan: Backend, src: &[u8], dst: &mut [u8], head: Lines, case: Che
     requires lines { AreLines case src.now head.len head.gap head.count }
     ensures { Spells case (unspaced src.now) dst.new }
 {
-    let (mut at, mut done) = decode_lines(plan, src, dst, head, case);
+    decode_lines(plan, src, dst, head, case);
+    let mut at = head.count * (head.len + head.gap);
+    let mut done = head.count * (head.len / 2);
     'runs: while at < src.len() {
         if src[at].is_ascii_whitespace() {
             at += 1;
@@ -282,9 +284,9 @@ fn decode_runs(plan: Backend, src: &[u8], dst: &mut [u8], head: Lines, case: Che
         }
         let lines = lines_of(plan, &src[at..], case);
         if lines.count > 0 {
-            let (end, bytes) = decode_lines(plan, &src[at..], &mut dst[done..], lines, case);
-            at += end;
-            done += bytes;
+            decode_lines(plan, &src[at..], &mut dst[done..], lines, case);
+            at += lines.count * (lines.len + lines.gap);
+            done += lines.count * (lines.len / 2);
         } else {
             // White space is between the two digits.
             let low = at + 1 + first_solid(&src[at + 1..]).unwrap();
@@ -295,20 +297,13 @@ fn decode_runs(plan: Backend, src: &[u8], dst: &mut [u8], head: Lines, case: Che
     }
 }
 
-// Decodes the lines at the start of a source into the start of `dst`. Returns the number of bytes read
-// and the number written.
+// Decodes the lines at the start of a source into the start of `dst`.
 #[inline(never)]
-fn decode_lines(
-    plan: Backend,
-    src: &[u8],
-    dst: &mut [u8],
-    lines: Lines,
-    case: CheckCase,
-) -> (usize, usize)
+fn decode_lines(plan: Backend, src: &[u8], dst: &mut [u8], lines: Lines, case: CheckCase)
     requires lines { AreLines case src.now lines.len lines.gap lines.count }
     requires room { lines.count * (lines.len / 2) ≤ length dst.old }
-    ensures read { result.0 ≡ lines.count * (lines.len + lines.gap) }
-    ensures written { DecodesLines case src.now dst.old dst.new result.0 result.1 }
+    ensures { DecodesLines case src.now dst.old dst.new (lines.count * (lines.len + lines.gap))
+        (lines.count * (lines.len / 2)) }
 {
     // As in `lines_of`, usual lengths have loops of their own.
     match lines.len {
@@ -320,17 +315,11 @@ fn decode_lines(
 }
 
 #[inline(always)]
-fn decode_lines_of(
-    plan: Backend,
-    src: &[u8],
-    dst: &mut [u8],
-    lines: Lines,
-    case: CheckCase,
-) -> (usize, usize)
+fn decode_lines_of(plan: Backend, src: &[u8], dst: &mut [u8], lines: Lines, case: CheckCase)
     requires lines { AreLines case src.now lines.len lines.gap lines.count }
     requires room { lines.count * (lines.len / 2) ≤ length dst.old }
-    ensures read { result.0 ≡ lines.count * (lines.len + lines.gap) }
-    ensures written { DecodesLines case src.now dst.old dst.new result.0 result.1 }
+    ensures { DecodesLines case src.now dst.old dst.new (lines.count * (lines.len + lines.gap))
+        (lines.count * (lines.len / 2)) }
 {
     let pairs = lines.len / 2;
     let mut at = 0;
@@ -340,7 +329,6 @@ fn decode_lines_of(
         at += lines.len + lines.gap;
         done += pairs;
     }
-    (at, done)
 }
 
 // Returns the index of the first byte that is not white space.

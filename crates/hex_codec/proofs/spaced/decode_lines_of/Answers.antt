@@ -34,3 +34,8 @@ lines-preserved c =
             (take-put_mid done (done + pairs - done) dst part (done + pairs) long before.room);
       },
     )
+
+pub returns : goal.returns
+returns c =
+    let all : c.lines.counter ≡ c.args.lines.count = omega (arith, c.lines.auto.counter-end, c.lines-test.false) in
+    rw (← all, ← c.lines.invariant.0, ← c.lines.invariant.1) c.lines.invariant.2

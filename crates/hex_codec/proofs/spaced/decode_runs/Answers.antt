@@ -1,5 +1,5 @@
 -- The next digits are decoded too.
-use Rattle.std.proofs.Common.{◌≡◌, ◌≢◌, ◌+◌, ◌-◌, ◌*◌, ◌∙◌, ◌≤◌, ℕ, List, Option, Some, None, arith, ap, sym, refl, length, take, drop, not, length-drop, slice_set, [], ◌∷◌, ◌++◌}
+use Rattle.std.proofs.Common.{◌≡◌, ◌≢◌, ◌+◌, ◌-◌, ◌*◌, ◌/◌, ◌∙◌, ◌≤◌, ℕ, List, Option, Some, None, arith, ap, sym, refl, length, take, drop, not, length-drop, slice_set, [], ◌∷◌, ◌++◌}
 use Rattle.std.specs.Prelude.{IsSome}
 use Rattle.std.proofs.Math.ListN.{length-set}
 use Rattle.std.proofs.lemmas.List.{get_or-drop, length-take-le, take_more_set, take_rest}
@@ -22,12 +22,12 @@ room-behind : (c : CheckCase) (s dst : List ℕ) (at done : ℕ) → length (uns
     → Spells c (unspaced (take at s)) (take done dst) → length (unspaced (drop at s)) ≤ 2 * (length dst - done)
 room-behind c s dst at done twice room before = omega (arith, twice, before.twice, length-take-le done dst room, unspaced-start at s)
 
-pub decode_lines-at-requires-clause-room : goal.decode_lines-at-requires-clause-room
-decode_lines-at-requires-clause-room c =
+pub decode_lines-requires-clause-room : goal.decode_lines-requires-clause-room
+decode_lines-requires-clause-room c =
     let head = c.args.head in lines-room c.args.case c.args.src.now head.len head.gap head.count (length c.args.dst.now) c.requires.lines (omega (arith, c.requires.twice))
 
-pub decode_lines-end-requires-clause-room : goal.decode_lines-end-requires-clause-room
-decode_lines-end-requires-clause-room c =
+pub decode_lines-requires-then-lines-gt0-clause-room : goal.decode_lines-requires-then-lines-gt0-clause-room
+decode_lines-requires-then-lines-gt0-clause-room c =
     let s = c.args.src.now in let at = c.runs.at in let done = c.runs.done in let dst = c.runs.dst in let found = c.lines_of-lines.result in let before = c.runs.invariant in
     let lines = rw (take_rest s at) at c.lines_of-lines.ensures in
     let behind = room-behind c.args.case s dst at done (c.requires.twice ∙ ap (λ n. 2 * n) (sym before.same)) before.room before.spelled in
@@ -37,13 +37,13 @@ pub runs-smaller-then-lines-gt0 : goal.runs-smaller-then-lines-gt0
 runs-smaller-then-lines-gt0 c =
     let found = c.lines_of-lines.result in
     let some = mul-le 1 1 found.count (found.len + found.gap) (omega (arith, c.if-lines-gt0.true)) (omega (arith, c.lines_of-lines.ensures.some (omega (arith, c.if-lines-gt0.true)))) in
-    omega (arith, some, c.decode_lines-end.ensures.read, c.runs-test.true)
+    omega (arith, some, c.runs-test.true)
 
 pub runs-preserved-then-lines-gt0 : goal.runs-preserved-then-lines-gt0
 runs-preserved-then-lines-gt0 c =
-    let s = c.args.src.now in let at = c.runs.at in let done = c.runs.done in let dst = c.runs.dst in
-    let end = c.decode_lines-end.result.0 in let count = c.decode_lines-end.result.1 in let part = c.decode_lines-end.new.dst in
-    let before = c.runs.invariant in let lines = rw (take_rest s at) at c.decode_lines-end.ensures.written in
+    let s = c.args.src.now in let at = c.runs.at in let done = c.runs.done in let dst = c.runs.dst in let found = c.lines_of-lines.result in
+    let end = found.count * (found.len + found.gap) in let count = found.count * (found.len / 2) in let part = c.decode_lines-then-lines-gt0.new.dst in
+    let before = c.runs.invariant in let lines = rw (take_rest s at) at c.decode_lines-then-lines-gt0.ensures in
     let size : length part ≡ length dst - done = lines.same ∙ rw (take_rest dst done) (length-drop done dst) in
     let same = length-put done (length dst - done) dst part (omega (arith, before.room)) size in
     let front = length-take-le done dst before.room in
