@@ -1,13 +1,12 @@
 //! Decoding of digits with white space among them.
 //!
-//! A source is read twice: first all of it is tested, then it is decoded. Both work on runs, which
-//! are the bytes between white space.
+//! A source is read twice: first all of it is tested, then it is decoded. Texts usually have lines of
+//! one length, so both read lines that are like the first one, and look for the end of a line only
+//! where there is no such line. The lines at the start of the source are not tested again.
 
 ghost use Rattle.std.specs.Prelude.{◌≡◌, ◌≢◌, ◌↔◌, ◌+◌, ◌*◌, ◌%◌, ◌/◌, ◌<◌, ◌≤◌, ◌-◌, ◌∷◌, [], drop, take, IsSome, IsTrue, None, Some, length, option_map, position, slice_index};
-ghost use Rattle.std.specs.Bool.{MatchBool};
 ghost use Rattle.hex_core.specs.declared.error.Error.TheVariants.{InvalidChar};
 ghost use Rattle.hex_core.specs.Digit.{value};
-ghost use Rattle.hex_core.specs.Search.{first_invalid};
 ghost use Rattle.hex_core.specs.Text.{Spells};
 ghost use Rattle.hex_codec.specs.inside.{AreLines, DecodesLines};
 ghost use Rattle.hex_codec.specs.Spaced.{DecodesSpaced, first_invalid_spaced, is_solid, unspaced};
@@ -18,8 +17,8 @@ use std::simd::prelude::*;
 // The number of bytes that are searched at once for the end of a run.
 const LANES: usize = 32;
 
-// The longest run. A longer one counts as several runs, so its end is not searched. The digits of one run
-// are decoded without the call of another function.
+// The longest run, which is the bytes before white space. A longer one counts as several runs, so its end is
+// not searched.
 const LONGEST_RUN: usize = 192;
 
 // Lines of digits: `count` times `len` digits, which are even in number, and `gap` bytes of white space
@@ -250,19 +249,22 @@ fn run_len(src: &[u8]) -> usize
 {
     let src = &src[..src.len().min(LONGEST_RUN)];
     let mut end = src.len().min(1);
-    'blocks: while src.len() - end >= LANES {
-        let lanes = u8x32::from_slice(&src[end..]);
+    if src.len() < LANES {
+        let more = src[end..].iter().position(|byte| *byte <= b' ');
+        return more.map_or(src.len(), |more| end + more);
+    }
+    'blocks: while end < src.len() {
+        // The last block ends with the source, and may overlap the block before it.
+        let at = end.min(src.len() - LANES);
+        let lanes = u8x32::from_slice(&src[at..]);
         let marks = lanes.simd_le(Simd::splat(b' ')).to_bitmask();
         if marks != 0 {
-            let found = end + marks.trailing_zeros() as usize;
-            return found.min(src.len());
+            let found = at + marks.trailing_zeros() as usize;
+            return found.clamp(1, src.len());
         }
-        end += LANES;
+        end = at + LANES;
     }
-    match src[end..].iter().position(|byte| *byte <= b' ') {
-        Some(more) => end + more,
-        None => src.len(),
-    }
+    src.len()
 }
 
 // Decodes all digits of a source, which are valid, over all of `dst`. `head` has the lines at the start
@@ -305,9 +307,9 @@ fn decode_lines(plan: Backend, src: &[u8], dst: &mut [u8], lines: Lines, case: C
     ensures { DecodesLines case src.now dst.old dst.new (lines.count * (lines.len + lines.gap))
         (lines.count * (lines.len / 2)) }
 {
-    // As in `lines_of`, usual lengths have loops of their own.
+    // As in `line_count`, usual lengths have loops of their own.
     match lines.len {
-        33..=64 => decode_lines_of(plan, src, dst, lines, case),
+        32..=64 => decode_lines_of(plan, src, dst, lines, case),
         65..=96 => decode_lines_of(plan, src, dst, lines, case),
         97..=128 => decode_lines_of(plan, src, dst, lines, case),
         _ => decode_lines_of(plan, src, dst, lines, case),

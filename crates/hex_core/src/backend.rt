@@ -192,7 +192,7 @@ impl Backend {
     }
 
     /// Decodes the digits of `src`, which must all be valid under `case`, over all of `dst`. This is
-    /// faster than [`Backend::decode`] for 33 to 128 digits, because it does not test them.
+    /// faster than [`Backend::decode`] for 32 to 128 digits, because it does not test them.
     ///
     /// Requires `src` to be exactly twice as long as `dst`, in bytes.
     ///
@@ -208,13 +208,13 @@ impl Backend {
         ensures digits { Spells case src.now dst.new }
     {
         match (self.0, src.len()) {
-            (Kind::Plain(Vectors::LookUp64), 33..=64) => write_ends::<LongRows, 32, 64, 16>(
+            (Kind::Plain(Vectors::LookUp64), 32..=64) => write_ends::<LongRows, 32, 64, 16>(
                 src, dst, case,
             ),
             (Kind::Plain(Vectors::LookUp64), 65..=128) => write_front::<LongRows, 64, 32>(
                 src, dst, case,
             ),
-            (Kind::Plain(_), 33..=64) => write_ends::<ShortRows, 32, 64, 16>(src, dst, case),
+            (Kind::Plain(_), 32..=64) => write_ends::<ShortRows, 32, 64, 16>(src, dst, case),
             (Kind::Plain(_), 65..=96) => write_front::<ShortRows, 32, 16>(src, dst, case),
             (Kind::Plain(_), 97..=128) => write_front::<ShortRows, 64, 32>(src, dst, case),
             _ => {

@@ -1,5 +1,5 @@
 -- The next line is decoded too.
-use Rattle.std.proofs.Common.{◌≡◌, ◌+◌, ◌-◌, ◌*◌, ◌/◌, ◌∙◌, ◌<◌, ◌≤◌, arith, length, length-drop, take, drop}
+use Rattle.std.proofs.Common.{◌≡◌, ◌+◌, ◌-◌, ◌/◌, ◌∙◌, ◌<◌, ◌≤◌, arith, length, length-drop, take, drop}
 use Rattle.std.proofs.Math.Nat.{add-sub_cancel_left, mul-le-mul_right}
 use Rattle.std.proofs.lemmas.List.{length-take-le}
 use Rattle.std.proofs.lemmas.Slice.{take-put_mid}

@@ -1,5 +1,5 @@
 -- The next digits are decoded too.
-use Rattle.std.proofs.Common.{◌≡◌, ◌≢◌, ◌+◌, ◌-◌, ◌*◌, ◌/◌, ◌∙◌, ◌≤◌, ℕ, List, Option, Some, None, arith, ap, sym, refl, length, take, drop, not, length-drop, slice_set, [], ◌∷◌, ◌++◌}
+use Rattle.std.proofs.Common.{◌≡◌, ◌≢◌, ◌+◌, ◌-◌, ◌*◌, ◌/◌, ◌∙◌, ◌≤◌, ℕ, List, Option, Some, None, arith, ap, sym, refl, length, take, drop, not, length-drop, slice_set, [], ◌∷◌}
 use Rattle.std.specs.Prelude.{IsSome}
 use Rattle.std.proofs.Math.ListN.{length-set}
 use Rattle.std.proofs.lemmas.List.{get_or-drop, length-take-le, take_more_set, take_rest}
