@@ -30,7 +30,7 @@
  * - gcc and clang warn if a result that says whether a call failed is not used.
  *
  * What is known: the library's source code is proved to return and write what this header says, for lengths below
- * 2^63. The assembly is tested, and for Linux on aarch64 and from x86-64-v2 on, its code for digits alone was compared
+ * 2^63. The assembly is tested, and for Linux on aarch64 and from x86-64-v2 on, its code for plain digits was compared
  * with a definition of hex. Plain C, where there is no assembly, is not proved. For keys, see faster_hex(3).
  */
 #ifndef FASTER_HEX_H
