@@ -20,7 +20,7 @@ static bool is_group(size_t every, uint8_t sep) {
     return every != 0 && sep < 0x80 && value_of(sep, FASTER_HEX_EITHER_CASE) == 16;
 }
 
-/* So many bytes that no text has a second group of them: a text without separators. */
+/* The group size of a text without separators: no text is longer. */
 #define WHOLE SIZE_MAX
 
 /* How long the digits of a group are with the separator after them. */

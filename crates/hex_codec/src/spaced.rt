@@ -1,8 +1,9 @@
 //! Decoding of digits with white space among them.
 //!
 //! A source is read twice: first all of it is tested, then it is decoded. Texts usually have lines of
-//! one length, so both read lines that are like the first one, and look for the end of a line only
-//! where there is no such line. The lines at the start of the source are not tested again.
+//! one length, so both assume that a line is like the one before it, and search its end only if it
+//! is not. The lines at the start of the source, up to the first one of another form, are decoded
+//! without a second test. Later lines are tested twice.
 
 ghost use Rattle.std.specs.Prelude.{◌≡◌, ◌≢◌, ◌↔◌, ◌+◌, ◌*◌, ◌%◌, ◌/◌, ◌<◌, ◌≤◌, ◌-◌, ◌∷◌, [], drop, take, IsSome, IsTrue, None, Some, length, option_map, position, slice_index};
 ghost use Rattle.hex_core.specs.declared.error.Error.TheVariants.{InvalidChar};
@@ -17,12 +18,12 @@ use std::simd::prelude::*;
 // The number of bytes that are searched at once for the end of a run.
 const LANES: usize = 32;
 
-// The longest run, which is the bytes before white space. A longer one counts as several runs, so its end is
-// not searched.
+// A run is the bytes up to the next white space, but at most this number of bytes. So the end of a long run
+// is not searched.
 const LONGEST_RUN: usize = 192;
 
-// Lines of digits: `count` times `len` digits, which are even in number, and `gap` bytes of white space
-// behind them.
+// Lines of digits at the start of a source. Each has `len` digits, which is an even number, and then `gap`
+// bytes of white space.
 #[derive(Clone, Copy)]
 struct Lines {
     len: usize,

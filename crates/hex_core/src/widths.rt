@@ -273,7 +273,7 @@ fn look_up_64(row: u8x16, at: u8x64) -> u8x64
     )
 }
 
-/// Looks up as [`Shuffle`] does, but each 16 lanes by themselves. The instruction that looks up
+/// Looks up as [`Shuffle`] does, but in parts of 16 lanes. The instruction that looks up
 /// ignores the bits that `and_splat` clears. Only in a vector that takes one register in each build
 /// the compiler sees this, and leaves the `and_splat` out.
 ///

@@ -120,9 +120,9 @@ fn put_parts<S: Sink>(
     Ok(())
 }
 
-/// Returns how many bytes the next part has after `total` others, which is at most `most`. If those
-/// end inside a piece, it is at most the rest of that piece, and otherwise it is whole pieces, or a
-/// part of a longer piece. So the bytes of a part lie in one piece or begin one.
+/// Returns the length of the part that follows the first `total` bytes, which is at most `most`.
+/// Inside a piece, the part ends with that piece at the latest. At the start of a piece, the part is
+/// as many whole pieces as fit, or the beginning of a longer piece.
 #[inline(always)]
 pub fn next_len(group: Option<Group>, total: usize, most: usize) -> usize
     requires { 0 < most }

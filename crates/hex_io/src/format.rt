@@ -93,7 +93,7 @@ impl<'a> Hex<'a> {
     /// than that, it has no padding.
     ///
     /// On `Ok` the sink has taken exactly this text, and has counted no failure. An empty text is
-    /// always `Ok`. Nothing is allocated. The number and the lengths of the puts are unspecified.
+    /// always `Ok`. No allocator is needed. The number and the lengths of the puts are unspecified.
     ///
     /// # Errors
     ///
