@@ -144,7 +144,7 @@ def snippets():
     """The first snippets of README.md by their languages: each call, and what its comment says of the key."""
     head = (TOP / "README.md").read_text().partition("\n## ")[0]
     found = re.findall(r"^```(c|rust)\n.*\n((?:\S.*\n)+)```$", head, re.M)
-    return {kind: re.findall(r"^(.*?)\??; +/[/*] (.*?)(?: \*/)?$", lines, re.M) for kind, lines in found}
+    return {kind: re.findall(r"^(?:it = )?(.*?)\??; +/[/*] (.*?)(?: \*/)?$", lines, re.M) for kind, lines in found}
 
 
 def test_snippet_in_c(tmp_path, library):
