@@ -17,7 +17,7 @@ FNR == 1 {
     held = ""
 }
 
-# antt: a text ends on its line, so only within `{- -}` could such a line be no comment of its own.
+# antt: a string ends on its line, so a line that begins with `--` is a comment, except within `{- -}`.
 !is_rattle && !is_unclear && /^ *--( |$)/ { next }
 !is_rattle {
     if (/[{]-/) is_unclear = 1

@@ -1,4 +1,4 @@
-"""Fixtures: what is built or copied for many tests. Each test says at its head what it checks."""
+"""Fixtures: what is built or copied for many tests. Each file of tests says at its head what it checks."""
 import os
 from pathlib import Path
 

@@ -59,7 +59,7 @@ def test_report(tmp_path):
     assert {name for name, _ in marked} <= {f"{name} on {it}" for it, names in printed.items() for name in names}
     assert {it.partition(" on ")[0] for it, _ in marked} == {it for names in printed.values() for it in names}
     assert ran([tmp_path / "bench/report", "no-such-processor"]).returncode == 2
-    # Where a call is faster by the same factor everywhere, no other figure is left.
+    # No processor has the times of `outputs`, so a table that was written is none of those before.
     for name, first in marked:
         made = re.search(rf"^<!-- {name} -->\n({MADE})", text, re.M)[1]
         assert made not in before, f"{name} begins with {first} and was not written"

@@ -30,7 +30,7 @@ NUMBERS += [0x5555555555555555, 0xff00ff00ff00ff00, 0xffffffff, 0xfffffffffffffe
 DISTANCES = 0, 1, 2, 3, 4, 5, 8, 12, 16, 24, 31, 32, 64, 256, 496, -1, -3, -8, -16, -32, -64, -255, -256, -512
 SHIFTS = {"mx": ("", ",lsl #1", ",lsl #2", ",lsl #3", ",lsl #4"), "uxtb": ("uxtb", "uxtb #1", "uxtb #2", "uxtb #4")}
 CONDITIONS = "eq ne cs cc mi pl hi ls ge lt gt le".split()
-# What the forms of branches contain, or those of instructions without operands or for branches.
+# Matches the forms of branches (`to`), of instructions without operands (`-`), and of the mark `bti`.
 BRANCH = re.compile(r"\bto\b|-|bti")
 # Reasons for which the tool refuses what processors do, or what each processor may do in its own way.
 REFUSES_MORE = "this is not defined|the stack pointer leaves the frame"

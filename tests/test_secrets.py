@@ -54,7 +54,7 @@ def differing(program, log):
 
 
 def found_in_c(made, *linked):
-    """Such calls in addresses.c, linked with a library or a build."""
+    """The result of `differing` for addresses.c, linked with a library or a build."""
     words = [*BUILT, "-static", TESTS_IN_C / "addresses.c", *linked]
     return differing(compiled(CC, made / "addresses", *words), made / "trace")
 

@@ -253,7 +253,7 @@ static struct job job_in_groups(enum call call, size_t len, unsigned turn, size_
     return it;
 }
 
-/* The same, in valid and invalid groups. */
+/* job_in_groups, with valid and invalid groups. */
 static struct job job_of(enum call call, size_t len, unsigned turn) {
     static const size_t pieces[] = { 1, 2, 3, 4, 16, 17, LONGEST, 0 };
     return job_in_groups(call, len, turn, pieces[turn % 8]);
@@ -333,7 +333,7 @@ static void at_drawn_lengths(void) {
     free(to.kept);
 }
 
-/* The greater length is that of complete texts in groups of 1, 2, 3, 4, 17 and 300 bytes. */
+/* The greatest length is one that a text in groups of 1, 2, 3, 4, 17 or 300 bytes can have. */
 static void at_long_lengths(void) {
     struct memory from = guarded(70004), to = guarded(3 * 70004 + 7);
     at_length(4097, 12, from, to);

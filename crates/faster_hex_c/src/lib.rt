@@ -33,9 +33,9 @@ const NOT_A_GROUP: u8 = 6;
 
 const BAD_LENGTH: u8 = 7;
 
-/// The bytes to read. C passes a pointer and a length. They are in a struct because a slice as a
-/// parameter, which C would pass in the same way, would make each function replace a null pointer
-/// first. A null pointer has length 0, so it is never read.
+/// The bytes to read. C passes this struct as a pointer and a length, as it would pass a slice. But
+/// a function with a slice as a parameter would first replace a null pointer. That is not needed,
+/// because a null pointer has length 0, so it is never read.
 #[repr(C)]
 #[derive(Clone, Copy)]
 pub struct Source<'a>(pub &'a [u8]);

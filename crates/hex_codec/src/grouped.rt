@@ -263,9 +263,9 @@ pub fn write_by(
     Ok(write_fitting(plan, src, dst, group, upper))
 }
 
-/// Does the same as [`write_into`] where there is room for a text in groups of 1, which is the
-/// longest one: three bytes for each byte of `src`, or one byte less. Returns the number of bytes
-/// written. The length of the text is not counted before, which would take a division.
+/// Does the same as [`write_into`], but `dst` must have at least `3 * src.len() - 1` bytes, which
+/// are enough for groups of any size. So this function need not compute the length of the text
+/// first, which would take a division. Returns the number of bytes written.
 ///
 /// ```rust
 /// let group = Group::new(2, b':').ok_or("no group")?;

@@ -132,8 +132,8 @@ fn lines_of(plan: Backend, src: &[u8], case: CheckCase) -> Lines
     Lines { len, gap, count }
 }
 
-// Returns the number of lines. For usual lengths the compiler makes a loop of its own, in which the length
-// is not compared again.
+// Returns the number of lines. The arms for usual lengths are alike, so that the compiler makes a loop for
+// each of them, in which the length is not compared again.
 #[inline(never)]
 fn line_count(plan: Backend, src: &[u8], len: usize, gap: usize, case: CheckCase) -> usize
     requires even { len % 2 ≡ 0 }

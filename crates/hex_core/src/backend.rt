@@ -191,8 +191,9 @@ impl Backend {
         }
     }
 
-    /// Decodes the digits of `src`, which must all be valid under `case`, over all of `dst`. This is
-    /// faster than [`Backend::decode`] for 32 to 128 digits, because it does not test them.
+    /// Decodes the digits of `src`, which must all be valid under `case`, over all of `dst`. By the
+    /// plan `plain` this is faster than [`Backend::decode`] for 32 to 128 digits, because they are
+    /// not tested.
     ///
     /// Requires `src` to be exactly twice as long as `dst`, in bytes.
     ///

@@ -95,8 +95,8 @@ pub fn check_eight<M: Rows<64>>(src: &[u8], case: CheckCase) -> bool
 }
 
 /// Returns whether every byte of `src` is valid under `case`. `src` has at least one block. The
-/// function tests one run of eight blocks after the other, and stops at the first run with an
-/// invalid byte. It then tests the remaining whole blocks and the last block together.
+/// function tests one run of eight blocks after the other, and returns false at the first run with
+/// an invalid byte. If all runs are valid, it tests the blocks after them together.
 #[inline(always)]
 pub fn check_runs<M: Rows<64>>(src: &[u8], case: CheckCase) -> bool
     requires { 64 ≤ length src.now }

@@ -272,8 +272,8 @@ where
     true
 }
 
-/// Decodes `N` digits over all of `dst`. It stores all bytes at once, because a load of all of them
-/// right after two stores would wait for both.
+/// Decodes `N` digits over all of `dst`. It stores all bytes at once. After two stores, a caller
+/// that loads all bytes right away would have to wait for both.
 #[inline(always)]
 pub fn decode_one<M, const N: usize, const HALF: usize>(
     src: &[u8],

@@ -103,9 +103,9 @@ fn check_row(case: CheckCase) -> u8x16
     u8x16::from_array(CHECK_ROWS[case as u8 as usize])
 }
 
-// Returns the hash of each lane, whose low four bits are the index in the other rows. Other lanes
-// change only its higher bits. For a byte below 128 a look-up ignores these, and no other byte is
-// valid.
+// Returns the hash of each lane. Its low four bits are the index in the other rows, and no other
+// lane changes them. If the byte is below 128, a look-up ignores the higher bits of its hash. No
+// byte from 128 on is valid.
 #[inline(always)]
 fn hashes<const N: usize>(v: Simd<u8, N>) -> Simd<u8, N>
 where
@@ -130,8 +130,7 @@ where
     v - offsets
 }
 
-/// Returns a number for each lane, which is below 128 exactly if the lane is valid. Other lanes do
-/// not matter.
+/// Returns a number for each lane, which is below 128 exactly if the lane is valid.
 #[inline(always)]
 pub fn hashed_checks<const N: usize>(v: Simd<u8, N>, case: CheckCase) -> Simd<u8, N>
 where

@@ -1,5 +1,5 @@
-//! Functions on blocks of bytes, which do the same with each byte. Tests, values and packing take
-//! blocks of 16, 32 or 64 bytes, and encoding takes 8, 16 or 32.
+//! Functions on blocks of bytes. They test digits, return their values, pack values into bytes, and
+//! encode bytes. A function that encodes takes 8, 16 or 32 bytes, and any other one 16, 32 or 64.
 #![tactic(auto, using(crate::proofs::ByteLemmas::admits, crate::proofs::PairLemmas::are_packed))]
 
 ghost use Rattle.std.specs.Prelude.{◌≡◌};

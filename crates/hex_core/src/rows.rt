@@ -28,8 +28,8 @@ pub trait Rows<const N: usize> {
     fn mark_mask(case: CheckCase) -> u8
         ensures { result ≡ mask case };
 
-    /// Returns lanes that have a mark exactly if they are invalid. The marks of many blocks are
-    /// joined by `or`, and tested once.
+    /// Marks each invalid lane. Its result has a bit of `mark_mask`, and that of a valid lane has
+    /// none. The marks of many blocks are joined by `or`, and tested once.
     fn marks(v: Simd<u8, N>, case: CheckCase) -> Simd<u8, N>
         requires { N ≤ 64 }
         ensures { AreClear (mask case) result ↔ AllValid case v.entry 0 N };

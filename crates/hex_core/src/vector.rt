@@ -117,8 +117,8 @@ pub fn is_small<const N: usize>(v: Simd<u8, N>) -> bool
     is_zero(and_splat(v, 0xf0))
 }
 
-// The product of this number and a word whose bytes are two nibbles has their packed byte as its high
-// half.
+// A word of two nibbles, multiplied by this number, gives the byte of both nibbles as the high byte
+// of the product.
 const FACTOR: u16 = 4097;
 
 // Each policy has the same factor. It is read from a table so that the compiler multiplies by it.

@@ -273,9 +273,9 @@ fn look_up_64(row: u8x16, at: u8x64) -> u8x64
     )
 }
 
-/// Looks up as [`Shuffle`] does, but in parts of 16 lanes. The instruction that looks up
-/// ignores the bits that `and_splat` clears. Only in a vector that takes one register in each build
-/// the compiler sees this, and leaves the `and_splat` out.
+/// Looks up as [`Shuffle`] does, but in parts of 16 lanes. The instruction for a look-up
+/// ignores the bits that [`Shuffle`] clears by `and_splat`. The compiler notices this, and leaves
+/// the `and_splat` out, only if a vector takes one register in every build.
 ///
 /// LLVM decides whether to inline this function, and it does. If it were marked as inline,
 /// `Backend::check` would be too long for the toolchain to inline.
@@ -294,8 +294,8 @@ fn look_up_row_of_64(row: u8x64, at: u8x64) -> u8x64
     row.swizzle_dyn(and_splat(at, 0x3f))
 }
 
-/// Replaces each lane by the entry of `row` at its low six bits. It has no mark for the reason given at
-/// [`look_up`].
+/// Replaces each lane by the entry of `row` at its low six bits. This function is not marked as
+/// inline, for the reason given at [`look_up`].
 pub fn look_up_long<const N: usize>(row: u8x64, at: Simd<u8, N>) -> Simd<u8, N>
     requires { N ≤ 64 }
     ensures { result ≡ map (long_entry row) at.entry }

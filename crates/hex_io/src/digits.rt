@@ -27,8 +27,8 @@ pub fn encoded<'b>(bytes: &[u8], upper: bool, buffer: &'b mut [u8]) -> &'b [u8]
     ensures text { result.now ≡ text upper bytes.now }
     ensures ascii { IsAscii result.now }
 {
-    // `hex_encode` does the same. But the toolchain keeps no proof that reads its contract, so each
-    // program above would prove this function again.
+    // A call of `hex_encode` would do the same. But the toolchain keeps no proof that reads the
+    // contract of `hex_encode`, so each program that uses this crate would prove `encoded` again.
     let len = hex_encode_into(bytes, buffer, upper).unwrap();
     &buffer[..len]
 }
@@ -139,9 +139,9 @@ pub fn next_len(group: Option<Group>, total: usize, most: usize) -> usize
     most - most % group.every().min(most)
 }
 
-/// Writes to `buffer` what the digits of `bytes` add to those of `total` bytes before them, and
-/// returns it. These are their own digits, in groups if there is a group. If the bytes begin a
-/// piece that is not the first, a separator comes before their digits.
+/// Writes the digits of `bytes` to `buffer`, in groups if there is a group, and returns them. They
+/// continue the text of the `total` bytes before `bytes`. So if `bytes` begin a piece that is not
+/// the first one, a separator comes before their digits.
 #[inline(always)]
 pub fn added_digits<'b>(
     bytes: &[u8],

@@ -83,9 +83,9 @@ impl From<WriteFault> for StreamFault {
 ///
 /// - [`StreamFault::Read`] if a read failed.
 /// - [`StreamFault::Codec`] with [`Error::InvalidChar`] if `case` does not accept a byte as a
-///   digit. The error has the first such byte and its index in the stream. At most the last 16,384
-///   bytes read are left out, and the invalid byte is among them. The bytes of all whole pairs
-///   before these were put.
+///   digit. The error has the first such byte and its index in the stream. The chunk with this
+///   byte, which has at most 16,384 bytes, was not decoded. The bytes of all whole pairs before
+///   this chunk were put.
 /// - [`StreamFault::Codec`] with [`Error::OddLength`] if all bytes are digits and their number is
 ///   odd. The bytes of all whole pairs were put.
 /// - [`StreamFault::Codec`] with [`Error::Overflow`] if the number of bytes read exceeds `usize`.

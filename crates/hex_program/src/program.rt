@@ -15,7 +15,7 @@ use std::alloc::{Allocator, Global};
 use std::fmt::{self, Display};
 use std::io::{Read, Write};
 
-// The length of the longest line, in bytes, with its newline.
+// The room for a line and its newline, in bytes. Every line fits.
 const LINE: usize = 128;
 
 // Ends a run. If it had no fault, its output is flushed. Otherwise the result is the fault as a

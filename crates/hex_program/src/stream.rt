@@ -147,9 +147,9 @@ pub fn refuse_stream<E: Write>(err: E, failure: Failure) -> (u8, E)
 ///
 /// `words` are the arguments of the program, without its name. They are tested first. If there is
 /// exactly one and it names a [`StreamOp`], the function reads `input` to its end, writes the
-/// output as it reads, and flushes it at the end. However it ends, what it has written to `out` is
-/// the first part of the right output, or all of it. After `read failed`, nothing of what was read
-/// is left out, except for the last newline or a digit that waits for its partner.
+/// output as it reads, and flushes it at the end. However it ends, it has written all of the right
+/// output to `out`, or a first part of it. After `read failed`, it has written the output for all
+/// that was read, except for the newline after the digits, or a last digit that has no partner.
 ///
 /// If the only word is `--help` or `--version`, the function reads nothing. It writes one line to
 /// `out`, which is the usage or the name and the version of the program.

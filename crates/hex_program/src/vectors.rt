@@ -21,7 +21,7 @@ pub enum Call {
     Decode(CheckCase),
     /// [`Hex::write_to`] into a [`SliceSink`], in groups of two bytes with a colon between them.
     WriteGrouped,
-    /// [`grouped::read`] of such a text. The result has an invalid byte as an invalid digit.
+    /// [`grouped::read`] with the group of `WriteGrouped`. Each fault becomes a similar [`Error`].
     ReadGrouped,
     /// [`digests::write_to`](hex_io::digests::write_to) of one entry into a [`SliceSink`], in
     /// uppercase. The source has the entry, which is a digest of two bytes, the mark and the name.

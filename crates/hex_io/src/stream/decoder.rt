@@ -278,8 +278,8 @@ impl Decoder {
         Err(self.error_in(src))
     }
 
-    // Feeds a chunk, or returns `None` and changes nothing if the chunk has an error. `digits` are
-    // those of the chunk, or the chunk itself, in which white space then counts as an error.
+    // Feeds a chunk, or returns `None` and changes nothing if the chunk has an error. `digits` has
+    // only the digits of the chunk, or all of its bytes, and then white space counts as an error.
     fn feed_valid(&mut self, src: &[u8], digits: &[u8], dst: &mut [u8]) -> Option<usize>
         requires digits { (digits.now ≡ src.now) ⊎ (digits.now ≡ digits_in (reading_of self.old) src.now) }
         ensures feeds { MatchOption result ((self.new ≡ self.old) × (dst.new ≡ dst.old))

@@ -28,8 +28,8 @@ pub fn copy_unspaced(src: &[u8], block: &mut [u8]) -> usize
 }
 
 // Does the same as `copy_unspaced` for the `LANES` bytes from index `start` on, and puts them behind
-// the `had` bytes in the block. A run ends at each byte that may be white space. If it is not white
-// space, it is copied too.
+// the `had` bytes in `block`. A run ends at each byte that may be white space. If this byte is not
+// white space, it is copied with the run.
 #[inline(always)]
 fn copy_runs(src: &[u8], start: usize, block: &mut [u8], had: usize) -> usize
     requires near { start + 2 * LANES ≤ length src.now }
