@@ -24,7 +24,7 @@ CC, CXX = os.environ.get("CC") or "cc", os.environ.get("CXX") or "c++"
 CARGO, RUSTC = os.environ.get("CARGO") or "cargo", os.environ.get("RUSTC") or "rustc"
 ARM_CC, ON_ARM = "aarch64-linux-gnu-gcc", "qemu-aarch64 -L /usr/aarch64-linux-gnu"
 WINDOWS_CC = "x86_64-w64-mingw32-gcc"
-# What changes a file while a record of it is made: its text is another one, or is changed back.
+# Commands that change a file while a record of it is made. The second one then restores it.
 CHANGES = {"changed": "echo >>{0}", "changed and changed back": "cp {0} it && echo >>{0} && cat it >{0} && rm it"}
 # An environment with the tools of the system only, so without the Rattle toolchain.
 BY_SYSTEM = {"PATH": "/usr/bin:/bin"}

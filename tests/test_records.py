@@ -159,7 +159,7 @@ OTHER = {
 
 @pytest.mark.parametrize("name", [*SAME, *OTHER])
 def test_comments_have_no_part_in_the_hash(tmp_path, name):
-    """Where a line might be no comment, it has. Each other implementation of awk prints the same."""
+    """A comment does not change the hash, but a line that might be no comment does. Every awk prints the same."""
     texts = [folder / name for folder in (tmp_path / "one", tmp_path / "two")]
     for path, text in zip(texts, (SAME | OTHER)[name]):
         path.parent.mkdir()

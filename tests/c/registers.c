@@ -1,6 +1,6 @@
-/* Runs machine code of aarch64 with any registers and memory, for tests/emulator.py. Signals do it: the handler of the
- * first one puts the registers in place. The code ends by `brk` or by a fault, and the handler of this second signal
- * takes the registers.
+/* Runs machine code of aarch64 with any registers and memory, for tests/emulator.py. The handler of a first signal puts
+ * the registers in place. The code ends by `brk` or by a fault, which is a second signal, and its handler saves the
+ * registers.
  *
  * Usage: registers. Standard input has commands of three numbers: a kind, an address and a size. MAP makes memory of
  * zeros there, WRITE writes the bytes that follow, and READ prints bytes. RUN takes the state that follows, runs the

@@ -37,7 +37,7 @@ pub enum Error {
         /// Half the length of the source.
         actual: usize,
     },
-    /// The source has an odd length, so the last digit has no partner.
+    /// The source has an odd number of bytes, or of digits where white space is skipped.
     OddLength,
     /// The length of the output exceeds `usize`.
     Overflow,

@@ -3,7 +3,7 @@
 //! A source is read twice: first all of it is tested, then it is decoded. Texts usually have lines of
 //! one length, so both assume that a line is like the one before it, and search its end only if it
 //! is not. The lines at the start of the source, up to the first one of another form, are decoded
-//! without a second test. Later lines are tested twice.
+//! without a second test. Later lines are not remembered, so they are tested again.
 
 ghost use Rattle.std.specs.Prelude.{◌≡◌, ◌≢◌, ◌↔◌, ◌+◌, ◌*◌, ◌%◌, ◌/◌, ◌<◌, ◌≤◌, ◌-◌, ◌∷◌, [], drop, take, IsSome, IsTrue, None, Some, length, option_map, position, slice_index};
 ghost use Rattle.hex_core.specs.declared.error.Error.TheVariants.{InvalidChar};
@@ -121,8 +121,8 @@ fn survey(plan: Backend, src: &[u8], head: Lines, case: CheckCase) -> (usize, bo
     (count, is_clean)
 }
 
-// Returns the lines at the start of a source, as long as each has as many valid digits as the first one and
-// the same white space.
+// Returns the lines at the start of a source that have the form of the first one: its number of digits, all
+// of them valid, and its white space.
 fn lines_of(plan: Backend, src: &[u8], case: CheckCase) -> Lines
     ensures { AreLines case src.now result.len result.gap result.count }
 {

@@ -74,8 +74,8 @@ impl Encode<32, 64> for Halved {
     }
 
     // Without this body, the compiler would store the second half of a vector before the first one.
-    // Then a text that exceeds the first-level cache and is not aligned to 64 bytes would take a
-    // quarter longer.
+    // Then a text that exceeds the first-level cache and is not aligned to 64 bytes would take up to
+    // half as long again.
     #[inline(always)]
     fn write(v: u8x32, dst: &mut [u8], at: usize, upper: bool)
         requires { at + 64 ≤ length dst.old }

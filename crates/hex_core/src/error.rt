@@ -50,9 +50,9 @@ pub enum Error {
         /// The number of bytes that the source would decode to.
         actual: usize,
     },
-    /// The source has an odd number of bytes.
+    /// The source has an odd number of bytes, or of digits where white space is skipped.
     OddLength,
-    /// The length of the whole output exceeds `usize`.
+    /// The length of the whole output, or the number of bytes read, exceeds `usize`.
     Overflow,
     /// The allocation of the output failed.
     OutOfMemory,
