@@ -1,8 +1,8 @@
 """Loops and joined paths: why finitely many paths stand for all executions.
 
-A state stands for each execution that is at the state's place and for which all that the state says is true, for some
-values of its unknowns. The addresses of the source, the destination and the stack are unknowns, and so is the address
-at which a file is loaded, if the file can be loaded anywhere. The tool relies on two facts about them: a file is loaded
+A state says what is true at its place, and contains unknowns. It stands for each execution at this place for which all
+of this is true with some values of the unknowns. The addresses of the source, the destination and the stack are
+unknowns, and so is the address at which a file is loaded, if the file can be loaded anywhere. The tool relies on two facts about them: a file is loaded
 at a multiple of a page, and the stack is aligned as a caller must align it. A call is shown to be right if each
 execution without a trap follows a path to a state that is compared with the definitions. This holds for the following
 reasons.
