@@ -2,10 +2,10 @@
 
 A state says what is true at its place, and contains unknowns. It stands for each execution at this place for which all
 of this is true with some values of the unknowns. The addresses of the source, the destination and the stack are
-unknowns, and so is the address at which a file is loaded, if the file can be loaded anywhere. The tool relies on two facts about them: a file is loaded
-at a multiple of a page, and the stack is aligned as a caller must align it. A call is shown to be right if each
-execution without a trap follows a path to a state that is compared with the definitions. This holds for the following
-reasons.
+unknowns, and so is the address at which a file is loaded, if the file can be loaded anywhere. The tool relies on two
+facts about them: a file is loaded at a multiple of a page, and the stack is aligned as a caller must align it. A call
+is shown to be right if each execution without a trap follows a path to a state that is compared with the definitions.
+This holds for the following reasons.
 
 - *Paths.* At a branch both outcomes are followed, unless Z3 proves that one is impossible. Each access is proved to be
   allowed from what was known when it was made. Source and destination do not overlap, so no store changes the source.
