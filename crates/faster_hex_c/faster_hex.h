@@ -30,7 +30,7 @@
  * - gcc and clang warn if a result that says whether a call failed is not used.
  *
  * What is known: the library's source code is proved to return and write what this header says, for lengths below
- * 2^63. The assembly is tested, and for Linux on aarch64 and from x86-64-v2 on, its code for plain digits was compared
+ * 2^63. The assembly is tested, and for Linux on aarch64 and from x86-64-v2 on, its code for digits alone was compared
  * with a definition of hex. Plain C, where there is no assembly, is not proved. For keys, see faster_hex(3).
  */
 #ifndef FASTER_HEX_H
@@ -172,8 +172,8 @@ struct faster_hex_answer faster_hex_decode_grouped(const void *src, size_t len, 
 const char *faster_hex_status_text(uint8_t status);
 
 /* Returns the version of the library that is loaded. FASTER_HEX_VERSION is the version of the header, and the two can
- * differ. The returned version ends with "+unproved" if the library was built by `make UNPROVED=yes` or by CMake with
- * FASTER_HEX_UNPROVED, which build assembly that may be changed. Returns a static string; do not free it. */
+ * differ. The returned version ends with "+unproved" if the library was built by `make UNPROVED=yes`, which does not
+ * check that the code was made from the proved sources. Returns a static string; do not free it. */
 const char *faster_hex_version(void);
 
 /* Names the build that the library has chosen: "x86-64", "x86-64-v2", "x86-64-v3", "x86-64-v4", "x86-64-vbmi" (which is

@@ -4,10 +4,10 @@ ghost use Rattle.std.specs.Prelude.{◌≡◌, ◌↔◌, ◌*◌, ◌<◌, ◌�
 ghost use Rattle.hex_core.specs.Calls.{DecodesOwned, DecodesWhole};
 ghost use Rattle.hex_core.specs.Plans.{name_of, owned_block, plan_names};
 ghost use Rattle.hex_core.specs.Search.{first_invalid};
-ghost use Rattle.hex_core.specs.Text.{Spells, text};
+ghost use Rattle.hex_core.specs.Text.{text};
 ghost use Rattle.hex_core.specs.inside.Blocks.{DecodesAt, HasRoom};
 
-use crate::decode::{decode_or_nothing, write_ends, write_front};
+use crate::decode::decode_or_nothing;
 use crate::digit::CheckCase;
 use crate::encode::{Interleaved, encode_blocks};
 use crate::lane_probe::check_lanes;
@@ -189,48 +189,6 @@ impl Backend {
             Kind::Plain(vectors) => decode_by_length::<ShortRows>(src, dst, case, vectors),
             _ => self.decode_outlined(src, dst, case),
         }
-    }
-
-    /// Decodes the digits of `src`, which must all be valid under `case`, over all of `dst`. By the
-    /// plan `plain` this is faster than [`Backend::decode`] for 32 to 128 digits, because they are
-    /// not tested.
-    ///
-    /// Requires `src` to be exactly twice as long as `dst`, in bytes.
-    ///
-    /// ```rust
-    /// let mut bytes = [0; 2];
-    /// Backend::plain().decode_valid(b"00aB", &mut bytes, CheckCase::None);
-    /// assert_eq!(rt; bytes, [0, 0xab]);
-    /// ```
-    #[inline(always)]
-    pub fn decode_valid(self, src: &[u8], dst: &mut [u8], case: CheckCase)
-        requires twice { length src.now ≡ 2 * length dst.old }
-        requires valid { first_invalid case src.now ≡ None }
-        ensures digits { Spells case src.now dst.new }
-    {
-        match (self.0, src.len()) {
-            (Kind::Plain(Vectors::LookUp64), 32..=64) => write_ends::<LongRows, 32, 64, 16>(
-                src, dst, case,
-            ),
-            (Kind::Plain(Vectors::LookUp64), 65..=128) => write_front::<LongRows, 64, 32>(
-                src, dst, case,
-            ),
-            (Kind::Plain(_), 32..=64) => write_ends::<ShortRows, 32, 64, 16>(src, dst, case),
-            (Kind::Plain(_), 65..=96) => write_front::<ShortRows, 32, 16>(src, dst, case),
-            (Kind::Plain(_), 97..=128) => write_front::<ShortRows, 64, 32>(src, dst, case),
-            _ => {
-                self.decode_any_outlined(src, dst, case);
-            }
-        }
-    }
-
-    // `decode` as a function of its own, because `decode_valid` would not be inlined if it contained it.
-    #[inline(never)]
-    fn decode_any_outlined(self, src: &[u8], dst: &mut [u8], case: CheckCase) -> bool
-        requires { length src.now ≡ 2 * length dst.old }
-        ensures { DecodesWhole case src.now dst.old dst.new result }
-    {
-        self.decode(src, dst, case)
     }
 
     // Does the same as `decode` for more than `MOST_INLINE` digits. Its code is inline if the plan is `plain`,
