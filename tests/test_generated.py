@@ -30,10 +30,11 @@ def test_processor(build):
 @pytest.mark.quick
 def test_vectors_of_the_baseline_build():
     """Its plan is `scalar`, which has no vectors. Only the call for digits with white space uses those of SSE2, to
-    search the end of a run and to move an answer."""
+    search the end of a run and to move results."""
     text = (GENERATED / "x86-64.s").read_text()
     found = re.findall(r"^\thex_(?:function|export)\t\w+?_x86_64_(\w+)(.*?)^\thex_end", text, re.M | re.S)
-    assert {name for name, body in found if "%xmm" in body} == {"codec_spaced_run_len", "decode_spaced"}
+    assert {name for name, body in found if "%xmm" in body} == {
+        "codec_spaced_run_len", "codec_spaced_decode_runs", "decode_spaced"}
 
 
 @pytest.mark.quick

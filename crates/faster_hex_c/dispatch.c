@@ -104,7 +104,7 @@ static const char *chosen_build(void) {
 
 /* Defines `chosen_CALL`, which makes a call by the build for the processor. The branch for level 3 is the first
  * one, so that processors without AVX-512 do not pay for the branches for levels 4 and 5. If a call has no builds for
- * these, all three levels use the build for level 3, and there is no other branch. */
+ * these two levels, it has no branches for them, and all three levels use the build for level 3. */
 #define CHOSEN(answer, call, parameters, arguments, widest)                       \
     BUILD answer OF(x86_64, call) parameters;                                     \
     BUILD answer OF(x86_64_v2, call) parameters;                                  \

@@ -29,9 +29,9 @@
  *   does not export the calls.
  * - gcc and clang warn if a result that says whether a call failed is not used.
  *
- * What is known: the library's source code is proved to return and write what this header says, for lengths below
- * 2^63. The assembly is tested, and for Linux on aarch64 and from x86-64-v2 on, its code for digits alone was compared
- * with a definition of hex. Plain C, where there is no assembly, is not proved. For keys, see faster_hex(3).
+ * What is known: the source of the assembly is proved to return and write what this header says, for lengths below
+ * 2^63. The assembly is tested, and for Linux on aarch64 and from x86-64-v2 on, its code for digits without groups or
+ * white space was checked for all bytes. dispatch.c and plain C are not proved. For keys, see faster_hex(3).
  */
 #ifndef FASTER_HEX_H
 #define FASTER_HEX_H
@@ -142,9 +142,9 @@ struct faster_hex_answer faster_hex_decode_with_case(const void *src, size_t len
 
 /* Decodes digits under a policy, and skips ASCII white space among them, also between the two digits of a byte. White
  * space is a space, tab, newline, form feed or carriage return. So this call decodes what `xxd -p` and
- * `openssl rand -hex` print. The number of digits is the number of bytes that are not white space, and half of it is the
- * room required. After FASTER_HEX_INVALID_CHAR, number is the index in the source. The call is not constant time: do not
- * use it for keys.
+ * `openssl rand -hex` print. The number of digits is the number of bytes that are not white space, and half of it is
+ * the room required. After FASTER_HEX_INVALID_CHAR, number is the index in the source. The call is not constant time:
+ * do not use it for keys.
  * Errors, in the order tested: FASTER_HEX_UNKNOWN_POLICY, FASTER_HEX_ODD_LENGTH, FASTER_HEX_OUTPUT_TOO_SMALL,
  * FASTER_HEX_INVALID_CHAR. */
 FASTER_HEX_MUST_USE
@@ -172,8 +172,8 @@ struct faster_hex_answer faster_hex_decode_grouped(const void *src, size_t len, 
 const char *faster_hex_status_text(uint8_t status);
 
 /* Returns the version of the library that is loaded. FASTER_HEX_VERSION is the version of the header, and the two can
- * differ. The returned version ends with "+unproved" if the library was built by `make UNPROVED=yes`, which does not
- * check that the code was made from the proved sources. Returns a static string; do not free it. */
+ * differ. The returned version ends with "+unproved" if the library was built by `make UNPROVED=yes` or by CMake with
+ * FASTER_HEX_UNPROVED, which build assembly that may be changed. Returns a static string; do not free it. */
 const char *faster_hex_version(void);
 
 /* Names the build that the library has chosen: "x86-64", "x86-64-v2", "x86-64-v3", "x86-64-v4", "x86-64-vbmi" (which is

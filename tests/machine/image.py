@@ -69,12 +69,14 @@ class Image:
         self.read_symbols(text)
         self.constants = [*self.read_sections(text)]
         self.relocated = self.read_relocations(path)
-        # By its address the bytes and text of each instruction; and by the id of its address each look-up in a table.
+        # `texts` has the bytes and the text of each instruction, by its address. `tables` has each look-up in a table,
+        # by the id of its address.
         self.texts, self.tables = self.processor.texts(path), {}
-        # The addresses that were executed; and for each known loop, by the address of its head, its last jump back.
+        # `executed` has the addresses that were executed. `loops` has the last jump back of each known loop, by the
+        # address of its head.
         self.executed, self.loops = set(), {}
-        # Where the functions of the build that is checked begin, and with which states calls have come there: on the
-        # processor of this level, and on those of the levels that were checked before.
+        # `entries` has the addresses at which functions of the build begin that is checked. `entering` has the states
+        # with which calls have come there on the processor of this level, and `entered` those of the levels before.
         self.entries, self.entering, self.entered = set(), set(), set()
 
     def read_symbols(self, text):

@@ -1,18 +1,18 @@
 """Loops and joined paths: why finitely many paths stand for all executions.
 
-A state stands for each execution that is at the state's place and for which all that the state says is true, for some
-values of its unknowns. The addresses of the source, the destination and the stack are unknowns, and so is the address
-at which a file is loaded, if the file can be loaded anywhere. The tool relies on two facts about them: a file is loaded
-at a multiple of a page, and the stack is aligned as a caller must align it. A call is shown to be right if each
-execution without a trap follows a path to a state that is compared with the definitions. This holds for the following
-reasons.
+A state says what is true at its place, and contains unknowns. It stands for each execution at this place for which all
+of this is true with some values of the unknowns. The addresses of the source, the destination and the stack are
+unknowns, and so is the address at which a file is loaded, if the file can be loaded anywhere. The tool relies on two
+facts about them: a file is loaded at a multiple of a page, and the stack is aligned as a caller must align it. A call
+is shown to be right if each execution without a trap follows a path to a state that is compared with the definitions.
+This holds for the following reasons.
 
 - *Paths.* At a branch both outcomes are followed, unless Z3 proves that one is impossible. Each access is proved to be
   allowed from what was known when it was made. Source and destination do not overlap, so no store changes the source.
-- *Bytes.* What is proved of a condition or of a stored byte holds for all values of its bytes. So it also holds where
-  two of their names mean one byte. If a test failed, some byte in its spans is no digit, and the index of this byte
-  lies in no span of valid digits. Each query may therefore use such an index. The spans of a test are not empty and lie
-  in the source, because the call has read their bytes.
+- *Bytes.* state.py explains the names of bytes, and the spans of a test. What is proved of a condition or of a stored
+  byte holds for all values of its bytes. So it also holds where two names mean one byte. If a test failed, some byte in
+  its spans is no digit, and the index of this byte lies in no span of valid digits. Each query may therefore use such
+  an index. The spans of a test are not empty and lie in the source, because the call has read their bytes.
 - *Loops.* The general state of a loop is its invariant: it says what holds at the loop's head before turn k, for any k
   below a bound N. It is guessed, and the argument does not depend on how. An induction on k shows that the general
   state stands for each arrival at the head. In the base case, the state at the entry is the general state for k = 0,

@@ -1,7 +1,8 @@
 -- A source without its white space.
 use Rattle.std.proofs.Common.{◌≡◌, ℕ, suc, ◌+◌, ◌≤◌, Bool, true, false, List, [], ◌∷◌, ◌++◌, length, take, drop, None}
-use Rattle.std.proofs.Common.{Some, get_or, refl, ◌∙◌, ap, arith, not, ◌<◌, ◌*◌, ◌≢◌, slice_index, length-append, take-append-drop, append-nil}
+use Rattle.std.proofs.Common.{Some, get_or, refl, ◌∙◌, ap, arith, not, ◌<◌, ◌*◌, ◌/◌, ◌≢◌, slice_index, length-append, length-drop, take-append-drop, append-nil, zero}
 use Rattle.std.specs.Prelude.{◌↔◌, ◌&&◌, IsSome, filter, position}
+use Rattle.std.proofs.Math.Nat.{mul-le-mul_right}
 use Rattle.std.proofs.Math.Seq.{take-add}
 use Rattle.std.proofs.lemmas.Bool.Decides.{nat_tests}
 use Rattle.std.proofs.lemmas.Grind.{common_steps}
@@ -18,6 +19,7 @@ use Rattle.hex_core.specs.Text.{Spells}
 use Rattle.hex_core.proofs.JoinLemmas.{spells-joined, valid-both}
 use Rattle.hex_core.proofs.PositionLemmas.{before_none, none_joined, position_none}
 use Rattle.hex_core.proofs.SearchLemmas.{has_value, lacks}
+use Rattle.hex_codec.specs.inside.{AreLines}
 use Rattle.hex_codec.specs.Spaced.{first_invalid_spaced, is_solid, is_invalid_spaced, unspaced}
 
 pub unspaced-le : (s : List ℕ) → length (unspaced s) ≤ length s
@@ -89,6 +91,32 @@ pub line-clean : (c : CheckCase) (s : List ℕ) (at len next : ℕ) → first_in
     → unspaced (take next s) ≡ unspaced (take at s) ++ take len (drop at s) → first_invalid_spaced c (take next s) ≡ None
 line-clean c s at len next clean valid line =
     (none-invalid-spaced c (take next s)).1 (rw line (valid-both c (unspaced (take at s)) (take len (drop at s)) ((none-invalid-spaced c (take at s)).0 clean) valid))
+
+pub lines-digits : (c : CheckCase) (s : List ℕ) (len gap n : ℕ) → AreLines c s len gap n → (k : ℕ) → k ≤ n
+    → (length (unspaced (take (k * (len + gap)) s)) ≡ k * len) × (first_invalid_spaced c (take (k * (len + gap)) s) ≡ None)
+lines-digits c s len gap n lines zero le = let none : 0 * (len + gap) ≡ 0 = omega arith in rw none (omega arith, refl)
+lines-digits c s len gap n lines (suc k) le =
+    let at = k * (len + gap) in let before = lines-digits c s len gap n lines k (omega arith) in
+    let next : suc k * (len + gap) ≡ at + (len + gap) = omega arith in
+    let inside : at + (len + gap) ≤ length s = omega (arith, lines.inside, mul-le-mul_right (len + gap) le, next) in
+    let line = line-more c s at len gap (lines.digits k (omega arith)) (lines.space k (omega arith)) in
+    let size = length-take-le len (drop at s) (omega (arith, inside, length-drop at s)) in
+    rw next (
+      omega (arith, ap length line, length-append (unspaced (take at s)) (take len (drop at s)), size, before.0),
+      line-clean c s at len (at + (len + gap)) before.1 (lines.digits k (omega arith)) line,
+    )
+
+-- a source has at least the digits of its start
+pub unspaced-start : (k : ℕ) (s : List ℕ) → length (unspaced s) ≡ length (unspaced (take k s)) + length (unspaced (drop k s))
+unspaced-start k s = ap length (rw (take-append-drop k s) at (filter-append is_solid (take k s) (drop k s))) ∙ length-append (unspaced (take k s)) (unspaced (drop k s))
+
+-- where there is room for the bytes of all digits, there is for those of the lines
+pub lines-room : (c : CheckCase) (s : List ℕ) (len gap n room : ℕ) → AreLines c s len gap n → length (unspaced s) ≤ 2 * room → n * (len / 2) ≤ room
+lines-room c s len gap n room lines fits =
+    let told = (lines-digits c s len gap n lines n (omega arith)).0 in
+    let twice : len ≡ 2 * (len / 2) = omega (arith, lines.even) in
+    let all : n * len ≡ 2 * (n * (len / 2)) = ap (λ m. n * m) twice ∙ omega arith in
+    omega (arith, told, all, unspaced-start (n * (len + gap)) s, fits)
 
 -- ---- decoding
 

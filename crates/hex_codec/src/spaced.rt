@@ -1,15 +1,15 @@
 //! Decoding of digits with white space among them.
 //!
-//! A source is read twice: first all of it is tested, then it is decoded. Both work on runs, which
-//! are the bytes between white space.
+//! A source is read twice: first all of it is tested, then it is decoded. Texts usually have lines of
+//! one length, so both assume that a line is like the one before it, and search its end only if it
+//! is not. The lines at the start of the source, up to the first one of another form, are decoded
+//! without a second test. Later lines are not remembered, so they are tested again.
 
-ghost use Rattle.std.specs.Prelude.{◌≡◌, ◌≢◌, ◌↔◌, ◌+◌, ◌*◌, ◌<◌, ◌≤◌, ◌-◌, ◌∷◌, [], drop, take, IsSome, IsTrue, None, Some, length, option_map, position, slice_index};
-ghost use Rattle.std.specs.Bool.{MatchBool};
+ghost use Rattle.std.specs.Prelude.{◌≡◌, ◌≢◌, ◌↔◌, ◌+◌, ◌*◌, ◌%◌, ◌/◌, ◌<◌, ◌≤◌, ◌-◌, ◌∷◌, [], drop, take, IsSome, IsTrue, None, Some, length, option_map, position, slice_index};
 ghost use Rattle.hex_core.specs.declared.error.Error.TheVariants.{InvalidChar};
 ghost use Rattle.hex_core.specs.Digit.{value};
-ghost use Rattle.hex_core.specs.Search.{first_invalid};
 ghost use Rattle.hex_core.specs.Text.{Spells};
-ghost use Rattle.hex_codec.specs.inside.{DecodesLines};
+ghost use Rattle.hex_codec.specs.inside.{AreLines, DecodesLines};
 ghost use Rattle.hex_codec.specs.Spaced.{DecodesSpaced, first_invalid_spaced, is_solid, unspaced};
 
 use hex_core::{Backend, CheckCase, Error, digit_value};
@@ -18,9 +18,18 @@ use std::simd::prelude::*;
 // The number of bytes that are searched at once for the end of a run.
 const LANES: usize = 32;
 
-// The longest run. A longer one counts as several runs, so its end is not searched. The digits of one run
-// are decoded without the call of another function.
+// A run is the bytes up to the next one that is at most a space, but at most this number of bytes. So a long
+// run is not searched to its end.
 const LONGEST_RUN: usize = 192;
+
+// Lines of digits at the start of a source. Each has `len` digits, which is an even number, and then `gap`
+// bytes of white space.
+#[derive(Clone, Copy)]
+struct Lines {
+    len: usize,
+    gap: usize,
+    count: usize,
+}
 
 /// Decodes the digits of `src` into the start of `dst`, if `case` accepts them. Skips ASCII white
 /// space among them, also between the two digits of a pair. Returns the number of bytes written,
@@ -65,7 +74,8 @@ pub fn hex_decode_spaced(src: &[u8], dst: &mut [u8], case: CheckCase) -> Result<
 pub fn decode_by(plan: Backend, src: &[u8], dst: &mut [u8], case: CheckCase) -> Result<usize, Error>
     ensures answer { DecodesSpaced case src.now dst.old dst.new result }
 {
-    let (digits, is_clean) = survey(plan, src, case);
+    let head = lines_of(plan, src, case);
+    let (digits, is_clean) = survey(plan, src, head, case);
     if digits % 2 == 1 {
         return Err(Error::OddLength);
     }
@@ -76,27 +86,33 @@ pub fn decode_by(plan: Backend, src: &[u8], dst: &mut [u8], case: CheckCase) -> 
     if !is_clean {
         return Err(invalid_error(src, case));
     }
-    decode_runs(plan, src, &mut dst[..required], case);
+    decode_runs(plan, src, &mut dst[..required], head, case);
     Ok(required)
 }
 
-// Returns the number of bytes that are not white space, and whether all of them are digits.
+// Returns the number of bytes that are not white space, and whether all of them are digits. `head` has
+// the lines at the start of the source.
 #[inline(never)]
-fn survey(plan: Backend, src: &[u8], case: CheckCase) -> (usize, bool)
+fn survey(plan: Backend, src: &[u8], head: Lines, case: CheckCase) -> (usize, bool)
+    requires lines { AreLines case src.now head.len head.gap head.count }
     ensures count { result.0 ≡ length (unspaced src.now) }
     ensures clean { IsTrue result.1 ↔ (first_invalid_spaced case src.now ≡ None) }
 {
-    let mut at = 0;
-    let mut count = 0;
+    let mut at = head.count * (head.len + head.gap);
+    let mut count = head.count * head.len;
     let mut is_clean = true;
     'runs: while at < src.len() {
-        let run = run_len(&src[at..]);
-        let (end, digits) = check_lines(plan, &src[at..], run, case);
-        if end > 0 {
-            at += end;
-            count += digits;
+        if src[at].is_ascii_whitespace() {
+            at += 1;
             continue;
         }
+        let lines = lines_of(plan, &src[at..], case);
+        if lines.count > 0 {
+            at += lines.count * (lines.len + lines.gap);
+            count += lines.count * lines.len;
+            continue;
+        }
+        let run = run_len(&src[at..]);
         let (more, are_digits) = survey_bytes(&src[at..at + run], case);
         count += more;
         is_clean &= are_digits;
@@ -105,43 +121,55 @@ fn survey(plan: Backend, src: &[u8], case: CheckCase) -> (usize, bool)
     (count, is_clean)
 }
 
-// Checks lines from the start of a source on, up to the first one that does not have `len` valid digits.
-// Returns the number of bytes and of digits in the lines before that one. For usual lengths the compiler
-// makes loops of their own, in which the length is not compared again.
+// Returns the lines at the start of a source that have the form of the first one: its number of digits, all
+// of them valid, and its white space.
+fn lines_of(plan: Backend, src: &[u8], case: CheckCase) -> Lines
+    ensures { AreLines case src.now result.len result.gap result.count }
+{
+    let len = run_len(src) / 2 * 2;
+    let gap = space_len(src, len);
+    let count = line_count(plan, src, len, gap, case);
+    Lines { len, gap, count }
+}
+
+// Returns the number of lines. The arms for usual lengths are alike, so that the compiler makes a loop for
+// each of them, in which the length is not compared again.
 #[inline(never)]
-fn check_lines(plan: Backend, src: &[u8], len: usize, case: CheckCase) -> (usize, usize)
-    requires some { 0 < len }
-    requires inside { len ≤ length src.now }
-    ensures inside { result.0 ≤ length src.now }
-    ensures count { result.1 ≡ length (unspaced (take result.0 src.now)) }
-    ensures clean { first_invalid_spaced case (take result.0 src.now) ≡ None }
+fn line_count(plan: Backend, src: &[u8], len: usize, gap: usize, case: CheckCase) -> usize
+    requires even { len % 2 ≡ 0 }
+    requires inside { len + gap ≤ length src.now }
+    requires most { gap ≤ 2 }
+    requires space { unspaced (take gap (drop len src.now)) ≡ [] }
+    ensures { AreLines case src.now len gap result }
 {
     match len {
-        33..=64 => check_lines_of(plan, src, len, case),
-        65..=128 => check_lines_of(plan, src, len, case),
-        _ => check_lines_of(plan, src, len, case),
+        0 => 0,
+        33..=64 => line_count_of(plan, src, len, gap, case),
+        65..=96 => line_count_of(plan, src, len, gap, case),
+        97..=128 => line_count_of(plan, src, len, gap, case),
+        _ => line_count_of(plan, src, len, gap, case),
     }
 }
 
 #[inline(always)]
-fn check_lines_of(plan: Backend, src: &[u8], len: usize, case: CheckCase) -> (usize, usize)
+fn line_count_of(plan: Backend, src: &[u8], len: usize, gap: usize, case: CheckCase) -> usize
     requires some { 0 < len }
-    requires inside { len ≤ length src.now }
-    ensures inside { result.0 ≤ length src.now }
-    ensures count { result.1 ≡ length (unspaced (take result.0 src.now)) }
-    ensures clean { first_invalid_spaced case (take result.0 src.now) ≡ None }
+    requires even { len % 2 ≡ 0 }
+    requires inside { len + gap ≤ length src.now }
+    requires most { gap ≤ 2 }
+    requires space { unspaced (take gap (drop len src.now)) ≡ [] }
+    ensures { AreLines case src.now len gap result }
 {
-    let gap = space_len(src, len);
     let mut at = 0;
     let mut count = 0;
     'lines: while len + gap <= src.len() - at
         && plan.check(&src[at..at + len], case)
-        && is_space(src, at + len, gap)
+        && is_same(src, len, at + len, gap)
     {
         at += len + gap;
-        count += len;
+        count += 1;
     }
-    (at, count)
+    count
 }
 
 // Returns how many bytes of white space are at an index, but at most two. This is the end of a line.
@@ -149,6 +177,7 @@ fn space_len(src: &[u8], at: usize) -> usize
     requires { at ≤ length src.now }
     ensures inside { at + result ≤ length src.now }
     ensures most { result ≤ 2 }
+    ensures space { unspaced (take result (drop at src.now)) ≡ [] }
 {
     if at >= src.len() || !src[at].is_ascii_whitespace() {
         return 0;
@@ -159,14 +188,18 @@ fn space_len(src: &[u8], at: usize) -> usize
     2
 }
 
-// Returns whether the next bytes, of which there are at most two, are white space.
-#[inline(always)]
-fn is_space(src: &[u8], at: usize, len: usize) -> bool
-    requires inside { at + len ≤ length src.now }
+// Returns whether the same bytes, of which there are at most two, are at both indices.
+fn is_same(src: &[u8], first: usize, second: usize, len: usize) -> bool
+    requires first { first + len ≤ length src.now }
+    requires second { second + len ≤ length src.now }
     requires most { len ≤ 2 }
-    ensures { IsTrue result → unspaced (take len (drop at src.now)) ≡ [] }
+    ensures { IsTrue result → take len (drop first src.now) ≡ take len (drop second src.now) }
 {
-    (len < 1 || src[at].is_ascii_whitespace()) && (len < 2 || src[at + 1].is_ascii_whitespace())
+    match len {
+        0 => true,
+        1 => src[first] == src[second],
+        _ => src[first] == src[second] && src[first + 1] == src[second + 1],
+    }
 }
 
 // Does the same as `survey`, byte by byte.
@@ -212,46 +245,51 @@ fn invalid_error(src: &[u8], case: CheckCase) -> Error
 // at most `LONGEST_RUN`. The first byte of the source always counts, even if it is white space.
 #[inline(never)]
 fn run_len(src: &[u8]) -> usize
-    requires { 0 < length src.now }
-    ensures some { 0 < result }
+    ensures some { 0 < length src.now → 0 < result }
     ensures inside { result ≤ length src.now }
 {
     let src = &src[..src.len().min(LONGEST_RUN)];
-    let mut end = 1;
-    'blocks: while src.len() - end >= LANES {
-        let lanes = u8x32::from_slice(&src[end..]);
+    let mut end = src.len().min(1);
+    if src.len() < LANES {
+        let more = src[end..].iter().position(|byte| *byte <= b' ');
+        return more.map_or(src.len(), |more| end + more);
+    }
+    'blocks: while end < src.len() {
+        // The last block ends with the source, and may overlap the block before it.
+        let at = end.min(src.len() - LANES);
+        let lanes = u8x32::from_slice(&src[at..]);
         let marks = lanes.simd_le(Simd::splat(b' ')).to_bitmask();
         if marks != 0 {
-            let found = end + marks.trailing_zeros() as usize;
-            return found.min(src.len());
+            let found = at + marks.trailing_zeros() as usize;
+            return found.clamp(1, src.len());
         }
-        end += LANES;
+        end = at + LANES;
     }
-    match src[end..].iter().position(|byte| *byte <= b' ') {
-        Some(more) => end + more,
-        None => src.len(),
-    }
+    src.len()
 }
 
-// Decodes all digits of a source, which are valid, over all of `dst`.
+// Decodes all digits of a source, which are valid, over all of `dst`. `head` has the lines at the start
+// of the source.
 #[inline(never)]
-fn decode_runs(plan: Backend, src: &[u8], dst: &mut [u8], case: CheckCase)
+fn decode_runs(plan: Backend, src: &[u8], dst: &mut [u8], head: Lines, case: CheckCase)
     requires clean { first_invalid_spaced case src.now ≡ None }
     requires twice { length (unspaced src.now) ≡ 2 * length dst.old }
+    requires lines { AreLines case src.now head.len head.gap head.count }
     ensures { Spells case (unspaced src.now) dst.new }
 {
-    let mut at = 0;
-    let mut done = 0;
+    decode_lines(plan, src, dst, head, case);
+    let mut at = head.count * (head.len + head.gap);
+    let mut done = head.count * (head.len / 2);
     'runs: while at < src.len() {
         if src[at].is_ascii_whitespace() {
             at += 1;
             continue;
         }
-        let pairs = run_len(&src[at..]) / 2;
-        let (end, bytes) = decode_lines(plan, &src[at..], &mut dst[done..], pairs, case);
-        if end > 0 {
-            at += end;
-            done += bytes;
+        let lines = lines_of(plan, &src[at..], case);
+        if lines.count > 0 {
+            decode_lines(plan, &src[at..], &mut dst[done..], lines, case);
+            at += lines.count * (lines.len + lines.gap);
+            done += lines.count * (lines.len / 2);
         } else {
             // White space is between the two digits.
             let low = at + 1 + first_solid(&src[at + 1..]).unwrap();
@@ -262,66 +300,38 @@ fn decode_runs(plan: Backend, src: &[u8], dst: &mut [u8], case: CheckCase)
     }
 }
 
-// Decodes lines from the start of a source on into the start of `dst`, up to the first one that does not
-// have `pairs` pairs of digits. Returns the number of bytes read and the number written. Usual lengths
-// have loops of their own, as in `check_lines`.
+// Decodes the lines at the start of a source into the start of `dst`.
 #[inline(never)]
-fn decode_lines(
-    plan: Backend,
-    src: &[u8],
-    dst: &mut [u8],
-    pairs: usize,
-    case: CheckCase,
-) -> (usize, usize)
-    requires { 2 * pairs ≤ length src.now }
-    ensures { DecodesLines case src.now dst.old dst.new result.0 result.1 }
+fn decode_lines(plan: Backend, src: &[u8], dst: &mut [u8], lines: Lines, case: CheckCase)
+    requires lines { AreLines case src.now lines.len lines.gap lines.count }
+    requires room { lines.count * (lines.len / 2) ≤ length dst.old }
+    ensures { DecodesLines case src.now dst.old dst.new (lines.count * (lines.len + lines.gap))
+        (lines.count * (lines.len / 2)) }
 {
-    match pairs {
-        0..=16 => decode_lines_of(plan, src, dst, pairs, case),
-        17..=32 => decode_lines_of(plan, src, dst, pairs, case),
-        33..=64 => decode_lines_of(plan, src, dst, pairs, case),
-        65..=96 => decode_lines_of(plan, src, dst, pairs, case),
-        // No run has more than 96 pairs.
-        _ => (0, 0),
+    // As in `line_count`, usual lengths have loops of their own.
+    match lines.len {
+        32..=64 => decode_lines_of(plan, src, dst, lines, case),
+        65..=96 => decode_lines_of(plan, src, dst, lines, case),
+        97..=128 => decode_lines_of(plan, src, dst, lines, case),
+        _ => decode_lines_of(plan, src, dst, lines, case),
     }
 }
 
 #[inline(always)]
-fn decode_lines_of(
-    plan: Backend,
-    src: &[u8],
-    dst: &mut [u8],
-    pairs: usize,
-    case: CheckCase,
-) -> (usize, usize)
-    requires { 2 * pairs ≤ length src.now }
-    ensures { DecodesLines case src.now dst.old dst.new result.0 result.1 }
+fn decode_lines_of(plan: Backend, src: &[u8], dst: &mut [u8], lines: Lines, case: CheckCase)
+    requires lines { AreLines case src.now lines.len lines.gap lines.count }
+    requires room { lines.count * (lines.len / 2) ≤ length dst.old }
+    ensures { DecodesLines case src.now dst.old dst.new (lines.count * (lines.len + lines.gap))
+        (lines.count * (lines.len / 2)) }
 {
-    let len = 2 * pairs;
-    let gap = space_len(src, len);
+    let pairs = lines.len / 2;
     let mut at = 0;
     let mut done = 0;
-    'lines: while len + gap <= src.len() - at
-        && pairs <= dst.len() - done
-        && is_space(src, at + len, gap)
-        && decode_run(plan, &src[at..at + len], &mut dst[done..done + pairs], case)
-    {
-        at += len + gap;
+    'lines: for _ in 0..lines.count {
+        plan.decode_valid(&src[at..at + lines.len], &mut dst[done..done + pairs], case);
+        at += lines.len + lines.gap;
         done += pairs;
     }
-    (at, done)
-}
-
-// Decodes a run over all of `dst`. Returns false and writes nothing if the run is empty or has a byte that
-// is no digit.
-#[inline(always)]
-fn decode_run(plan: Backend, src: &[u8], dst: &mut [u8], case: CheckCase) -> bool
-    requires { length src.now ≡ 2 * length dst.old }
-    ensures { MatchBool result
-        ((0 < length dst.old) × (first_invalid case src.now ≡ None) × Spells case src.now dst.new)
-        (dst.new ≡ dst.old) }
-{
-    !src.is_empty() && plan.decode(src, dst, case)
 }
 
 // Returns the index of the first byte that is not white space.

@@ -202,6 +202,27 @@ ends_nibbles {c} {s} {v} old r at n is room are long inside =
       },
     )
 
+-- nibbles of bytes that have values
+pub valid_values : (c : CheckCase) (v r : List ℕ) (n : ℕ) → n ≡ length v → AllValid c v 0 n → AreValues c v r → length r ≡ n → AreNibbles c v r × AreSmall r
+valid_values c v r n all valid are long =
+    let lane : (k : ℕ) → k < length v → value c (get_or v k 0) ≡ Some (get_or r k 0) = λ k h. value_is (value c (get_or v k 0)) (get_or r k 0) (valid k (omega arith) (omega arith)) (are k h) in
+    (λ k h. subst (λ o. IsNibble o (get_or r k 0)) (sym (lane k h)) refl, λ k h. value_small c (get_or v k 0) (get_or r k 0) (lane k (omega arith)))
+
+-- both ends of a source that has no invalid byte
+pub ends_valid : (c : CheckCase) (s old v : List ℕ) (at n : ℕ) → v ≡ put_chunk n (put_chunk 0 old (chunk 0 n s)) (chunk at n s) → length old ≡ n + n → at + n ≤ length s → first_invalid c s ≡ None → AllValid c v 0 (n + n) × (length v ≡ n + n)
+ends_valid c s old v at n is room inside none =
+    let f = chunk 0 n s in let b = chunk at n s in let mid = put_chunk 0 old f in
+    let one : length f ≡ n = length-chunk 0 n s (omega arith) in let two = length-chunk at n s inside in let same = length-put_chunk 0 old f in
+    let digit : (k b : ℕ) → k < length s → b ≡ get_or s k 0 → IsSome (value c b) = λ k b lt e. rw e (none_valid c s none k (omega arith) lt) in (
+      λ k low lt. rw is (elim (cases_lt k n) [
+        | inl first ↦ let here : k ≡ 0 + k = omega arith in
+            digit (0 + k) _ (omega arith) (get_or-put_chunk_below n mid b k 0 first ∙ ap (λ i. get_or mid i 0) here ∙ get_or-put_chunk_at 0 old f k 0 (omega arith) (omega arith) ∙ get_or-chunk 0 n s k 0 first)
+        | inr past ↦ let j = k - n in let place : k ≡ n + j = omega arith in
+            digit (at + j) _ (omega arith) (ap (λ i. get_or (put_chunk n mid b) i 0) place ∙ get_or-put_chunk_at n mid b j 0 (omega arith) (omega arith) ∙ get_or-chunk at n s j 0 (omega arith))
+      ]),
+      ap length is ∙ length-put_chunk n mid b ∙ same ∙ room,
+    )
+
 -- ---- a block that is decoded
 
 -- two blocks that are written one behind the other, at once or in turn, of which the first has n bytes

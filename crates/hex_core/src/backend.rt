@@ -4,10 +4,10 @@ ghost use Rattle.std.specs.Prelude.{◌≡◌, ◌↔◌, ◌*◌, ◌<◌, ◌�
 ghost use Rattle.hex_core.specs.Calls.{DecodesOwned, DecodesWhole};
 ghost use Rattle.hex_core.specs.Plans.{name_of, owned_block, plan_names};
 ghost use Rattle.hex_core.specs.Search.{first_invalid};
-ghost use Rattle.hex_core.specs.Text.{text};
+ghost use Rattle.hex_core.specs.Text.{Spells, text};
 ghost use Rattle.hex_core.specs.inside.Blocks.{DecodesAt, HasRoom};
 
-use crate::decode::decode_or_nothing;
+use crate::decode::{decode_or_nothing, write_blocks, write_ends, write_front};
 use crate::digit::CheckCase;
 use crate::encode::{Interleaved, encode_blocks};
 use crate::lane_probe::check_lanes;
@@ -188,6 +188,43 @@ impl Backend {
             Kind::Plain(Vectors::LookUp64) => decode_by_long_rows(src, dst, case),
             Kind::Plain(vectors) => decode_by_length::<ShortRows>(src, dst, case, vectors),
             _ => self.decode_outlined(src, dst, case),
+        }
+    }
+
+    /// Decodes the digits of `src`, which must all be valid under `case`, over all of `dst`. The
+    /// plan `plain` does not test them, so it is faster here than in [`Backend::decode`].
+    ///
+    /// Requires `src` to be exactly twice as long as `dst`, in bytes.
+    ///
+    /// ```rust
+    /// let mut bytes = [0; 2];
+    /// Backend::plain().decode_valid(b"00aB", &mut bytes, CheckCase::None);
+    /// assert_eq!(rt; bytes, [0, 0xab]);
+    /// ```
+    #[inline(always)]
+    pub fn decode_valid(self, src: &[u8], dst: &mut [u8], case: CheckCase)
+        requires twice { length src.now ≡ 2 * length dst.old }
+        requires valid { first_invalid case src.now ≡ None }
+        ensures digits { Spells case src.now dst.new }
+    {
+        match (self.0, src.len()) {
+            (Kind::Plain(Vectors::LookUp64), 65..) => write_blocks::<LongRows, 64, 32>(
+                src, dst, case,
+            ),
+            (Kind::Plain(Vectors::LookUp64), 32..=64) => write_ends::<LongRows, 32, 64, 16>(
+                src, dst, case,
+            ),
+            (Kind::Plain(_), 97..) => write_blocks::<ShortRows, 64, 32>(src, dst, case),
+            (Kind::Plain(_), 65..=96) => write_front::<ShortRows>(src, dst, case),
+            (Kind::Plain(_), 32..=64) => write_ends::<ShortRows, 32, 64, 16>(src, dst, case),
+            (Kind::Plain(_), 16..32) => write_ends::<ShortRows, 16, 32, 8>(src, dst, case),
+            (Kind::Plain(_), 8..16) => write_ends::<ShortRows, 8, 16, 4>(src, dst, case),
+            (Kind::Plain(_), 4..8) => write_ends::<ShortRows, 4, 8, 2>(src, dst, case),
+            (Kind::Plain(_), 2..4) => write_ends::<ShortRows, 2, 4, 1>(src, dst, case),
+            (Kind::Plain(_), _) => (),
+            _ => {
+                self.decode_outlined(src, dst, case);
+            }
         }
     }
 

@@ -175,6 +175,50 @@ pub fn decode_long<M: Rows<64> + Nibbles<64>>(src: &[u8], dst: &mut [u8], case: 
     valid
 }
 
+/// Decodes `N` to `2 * N` valid digits over all of `dst`, as [`decode_ends`] does, but does not test
+/// them.
+#[inline(always)]
+pub fn write_ends<M, const N: usize, const TWICE: usize, const HALF: usize>(
+    src: &[u8],
+    dst: &mut [u8],
+    case: CheckCase,
+)
+where
+    M: Nibbles<TWICE>,
+    Lanes: Pack<TWICE, N>,
+    requires lanes { TWICE ≤ 64 }
+    requires twice { TWICE ≡ 2 * N }
+    requires sizes { Halves N HALF src.now dst.old }
+    requires covered { EndsCover N src.now }
+    requires valid { first_invalid case src.now ≡ None }
+    ensures { Spells case src.now dst.new }
+{
+    let mut both = [0; TWICE];
+    let lanes = &mut both[..];
+    Simd::<u8, N>::from_slice(src).copy_to_slice(lanes);
+    Simd::<u8, N>::from_slice(&src[src.len() - N..]).copy_to_slice(&mut lanes[N..]);
+    let packed = Lanes::pack(M::nibbles(Simd::from_array(both), case)).to_array();
+    let bytes = &packed[..];
+    let end = dst.len();
+    Simd::<u8, HALF>::from_slice(bytes).copy_to_slice(dst);
+    Simd::<u8, HALF>::from_slice(&bytes[HALF..]).copy_to_slice(&mut dst[end - HALF..]);
+}
+
+/// Decodes 64 to 96 valid digits over all of `dst`. The first vector has 64 digits, and the last one
+/// has 32.
+#[inline(always)]
+pub fn write_front<M: Nibbles<32> + Nibbles<64>>(src: &[u8], dst: &mut [u8], case: CheckCase)
+    requires twice { length src.now ≡ 2 * length dst.old }
+    requires least { 64 ≤ length src.now }
+    requires most { length src.now ≤ 96 }
+    requires valid { first_invalid case src.now ≡ None }
+    ensures { Spells case src.now dst.new }
+{
+    let end = dst.len();
+    write_at::<M, 64, 32>(src, dst, 0, case);
+    write_at::<M, 32, 16>(src, dst, end - 16, case);
+}
+
 // Returns the values of the `N` bytes from index `at` on, and a number of at least 16 for each
 // invalid byte.
 #[inline(always)]

@@ -39,6 +39,17 @@ impl Slices {
             .is_left(&mut self.seen, given, call, Ok::<_, u8>(left));
     }
 
+    // Tries `decode_valid`, if the plan takes the source for valid. The call must leave the bytes `left`.
+    fn is_valid(&mut self, plan: Backend, given: Given<'_>, left: &[u8]) {
+        let Given { case, src, .. } = given;
+        let dst = self.to.lend(src.len() / 2);
+        if plan.check(src, case) && src.len() % 2 == 0 && dst.len() == src.len() / 2 {
+            plan.decode_valid(src, dst, case);
+            self.to
+                .is_left(&mut self.seen, given, "decode_valid", Ok::<_, u8>(left));
+        }
+    }
+
     /// Tries each call of a plan that checks, searches or, if its length is even, decodes a whole source.
     pub fn are_read(&mut self, case: CheckCase, src: &[u8]) {
         let mut bytes = [0; LONGEST / 2];
@@ -55,6 +66,7 @@ impl Slices {
             };
             self.is_decoded(plan, given, false, first(bytes, decoded));
             self.is_decoded(plan, given, true, first(bytes, stored));
+            self.is_valid(plan, given, bytes);
         }
     }
 
