@@ -1,4 +1,4 @@
-/* The calls of faster_hex.h for C++17 and later. faster_hex.h describes how the library behaves.
+/* encode, decode, decode_spaced and build for C++17 and later. faster_hex.h describes how the library behaves.
  *
  * encode returns digits as std::string, and decode returns bytes as std::vector. Both accept any type with data() and
  * size(), such as std::string, std::string_view, std::vector and std::span, arrays of unsigned char and std::byte,

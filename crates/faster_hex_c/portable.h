@@ -23,7 +23,8 @@ static bool is_group(size_t every, uint8_t sep) {
 /* The group size of a text without separators: no text is longer. */
 #define WHOLE SIZE_MAX
 
-/* How long the digits of a group are with the separator after them. */
+/* The length of a group's digits and the separator after them. If it exceeds SIZE_MAX, it is SIZE_MAX, because no text
+ * is longer. */
 static size_t span_of(size_t every) {
     return every <= SIZE_MAX / 2 ? 2 * every + 1 : SIZE_MAX;
 }

@@ -8,7 +8,7 @@
 #include <string.h>
 #include <sys/mman.h>
 
-/* The registers are in the order of their numbers. The fourth is the stack pointer. */
+/* The registers are in the order of their numbers. Number 4 is the stack pointer. */
 struct state {
     uint64_t registers[16], flags, unused[7];
     unsigned char vectors[16][64];

@@ -205,8 +205,9 @@ macro_rules! modules {
             ///
             /// # Errors
             ///
-            /// Those of [`deserialize`]. One more comes before the last of them: the string has digits for
-            /// more than `MAX` bytes. Then no byte is decoded.
+            /// Those of [`deserialize`], in its order, and one more before the last of them, which is
+            /// about an invalid digit. If the string has digits for more than `MAX` bytes, it fails and
+            /// decodes no byte.
             pub fn deserialize_bounded<'de, const MAX: usize, D, T>(
                 deserializer: D,
             ) -> Result<T, D::Error>

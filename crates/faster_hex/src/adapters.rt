@@ -72,7 +72,8 @@ impl From<Error> for AdapterError {
     }
 }
 
-/// A format of bytes as a JSON string. Each of the six modules has one. It accepts what it writes.
+/// A format of bytes as a JSON string. Each of the six modules has one, which accepts what it writes.
+/// One of your own does so if `case` is `None`, or if it is the letter case that `upper` selects.
 ///
 /// ```rust
 /// let format = WireFormat {

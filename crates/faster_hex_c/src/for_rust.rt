@@ -1,5 +1,5 @@
-//! Functions that only the Rust crate links. Its `hex_check_with_case` knows the policy at compile
-//! time. If the policy were a parameter, the numbers that belong to it would be read from tables.
+//! Functions that only our Rust crate links. Its `hex_check_with_case` calls another function for
+//! each policy. If the policy were a parameter, the numbers that belong to it would be read from tables.
 
 ghost use Rattle.std.specs.Prelude.{◌≡◌, ◌↔◌, IsTrue, None};
 ghost use Rattle.hex_core.specs.declared.digit.CheckCase.TheVariants as policy;

@@ -54,7 +54,8 @@ impl Vectors {
     }
 }
 
-/// Returns whether every byte of `src` is valid under `case`, by the map `M`.
+/// Returns whether every byte of `src` is valid under `case`. The map `M` tests sources of 16 bytes or
+/// more.
 #[inline(always)]
 pub fn check_by_length<M: Rows<16> + Rows<32> + Rows<64>>(
     src: &[u8],
@@ -147,8 +148,8 @@ fn check_short(src: &[u8], case: CheckCase) -> bool
     }
 }
 
-/// Decodes all of `src` over all of `dst` by the map `M`, and returns true. If a byte is invalid, it
-/// returns false and writes nothing. Up to [`MOST_INLINE`] digits are decoded inline, so that a
+/// Decodes all of `src` over all of `dst`, by the map `M` from 16 digits on, and returns true. If a byte
+/// is invalid, it returns false and writes nothing. Up to [`MOST_INLINE`] digits are decoded inline, so that a
 /// length which the caller's compiler knows is not tested at run time.
 #[inline(always)]
 pub fn decode_by_length<M: Rows<32> + Rows<64> + Nibbles<64>>(

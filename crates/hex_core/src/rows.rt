@@ -28,8 +28,8 @@ pub trait Rows<const N: usize> {
     fn mark_mask(case: CheckCase) -> u8
         ensures { result ≡ mask case };
 
-    /// Marks each invalid lane. Its result has a bit of `mark_mask`, and that of a valid lane has
-    /// none. The marks of many blocks are joined by `or`, and tested once.
+    /// Returns a lane for each byte, with a bit of `mark_mask` if the byte is invalid, and with none
+    /// if it is valid. The lanes of many blocks are joined by `or`, and tested once.
     fn marks(v: Simd<u8, N>, case: CheckCase) -> Simd<u8, N>
         requires { N ≤ 64 }
         ensures { AreClear (mask case) result ↔ AllValid case v.entry 0 N };
@@ -51,8 +51,8 @@ static MARK_ROWS: [[u8; 16]; 3] = [
     *b"\xa7\xa9\xa9\x00\x00\x00\x00\x00\x00\x91\xa1\xa3\xa3\xa5\xa5\xa7",
 ];
 
-// The index is the distance of a byte past the digit 7, or 0 for a byte up to 7. For a letter it is 10
-// to 15 modulo 16.
+// The index is the byte minus the character `7`, or 0 for a byte up to that character. So it is 1 and 2
+// for the characters `8` and `9`, and 10 to 15 modulo 16 for a letter.
 static NIBBLE_ROWS: [[u8; 16]; 3] = [
     *b"\x10\x11\x12\x00\x00\x00\x00\x00\x00\x00\x75\x74\x7b\x76\x79\x78",
     *b"\x30\x31\x32\x00\x00\x00\x00\x00\x00\x00\x95\x94\x9b\x96\x99\x98",
@@ -117,12 +117,13 @@ fn value_row() -> u8x64
     u8x64::from_slice(&VALUE_ROW)
 }
 
-/// The map with rows of 16 entries, in which one instruction of most builds looks up.
+/// The map with rows of 16 entries. In most builds one instruction looks a whole vector up in such a
+/// row.
 pub struct ShortRows;
 
-// This map looks nothing up. It clears the bits in which decimal digits differ from their values, and
-// lowercase letters from uppercase ones. A decimal digit is then its value, and a letter its value plus
-// 55.
+// This function looks nothing up. It clears the bits in which decimal digits differ from their values,
+// and lowercase letters from uppercase ones. A decimal digit is then its value, and a letter its value
+// plus 55.
 impl<const N: usize> Nibbles<N> for ShortRows {
     #[inline(always)]
     fn nibbles(v: Simd<u8, N>, _case: CheckCase) -> Simd<u8, N>
@@ -158,9 +159,10 @@ impl<const N: usize> Rows<N> for ShortRows {
         requires { N ≤ 64 }
         ensures { AreNibbles case v.entry result }
     {
-        // The difference has the bits in which a valid byte differs from its value, apart from the
-        // bit that makes a letter lowercase. It is smaller for a lowercase letter than for an
-        // uppercase one by that very bit.
+        // Under one case, the difference has the bits in which a valid byte differs from its value. If
+        // both cases are accepted, `fold_of` flips the bit that makes a letter lowercase. The difference
+        // then has the other bits, and also this one for an uppercase letter, for which `past` is
+        // smaller by it.
         let past = saturating_sub(v, b'7');
         let bits = saturating_differences(look_up(nibble_row(case), past), past);
         xor(xor_splat(v, fold_of(case)), bits)

@@ -88,12 +88,11 @@ impl<'a> Hex<'a> {
         Hex { bytes }
     }
 
-    /// Puts the text of the view into `sink`. The text is the sign, the prefix and the digits,
-    /// padded as `flags` say. It is padded up to `flags.width` characters. If it is not shorter
-    /// than that, it has no padding.
+    /// Puts the text of the view into `sink`. The text is the sign, the prefix and the digits. If
+    /// that is shorter than `flags.width` characters, it is padded to that width, as `flags` say.
     ///
     /// On `Ok` the sink has taken exactly this text, and has counted no failure. An empty text is
-    /// always `Ok`. No allocator is needed. The number and the lengths of the puts are unspecified.
+    /// always `Ok`. The call needs no allocator, and its puts may have any number and any lengths.
     ///
     /// # Errors
     ///

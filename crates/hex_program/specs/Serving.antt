@@ -72,7 +72,7 @@ FailsBefore left failure = ⊥
 abbrev pub ReadsSome : Option (List ℕ) → Option (List ℕ) → Type 0
 ReadsSome left left' = (input : List ℕ) × Consumes left left' input
 
--- the input was read, and this is so of the operation's output
+-- the input was read, and `Wrote` holds of the operation's output
 pub record Served (op : Op) (left left' : Option (List ℕ)) (Wrote : List ℕ → Type 0) : Type 0 where
   pub input : List ℕ
   pub output : List ℕ

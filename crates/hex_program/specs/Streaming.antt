@@ -42,8 +42,8 @@ IsStreamOutput Encode input output = output ≡ line input
 IsStreamOutput EncodeLines input output = output ≡ flat_map line (pieces 30 input)
 IsStreamOutput Decode input output = Spells policy.None (unspaced input) output
 
--- of what was read so far a leading part of the output was written: of the lines that it gives if it ends here, or
--- of what the whole pairs of digits in a leading part of it spell
+-- a leading part of the output for what was read so far was written. If the operation encodes, it is part of the lines
+-- of all these bytes. If it decodes, it is part of what the whole pairs of digits in the first of these bytes spell
 abbrev pub Begins : StreamOp → List ℕ → Option (List ℕ) → Option (List ℕ) → Type 0
 Begins Encode input held held' = WritesPart held held' (line input)
 Begins EncodeLines input held held' = WritesPart held held' (flat_map line (pieces 30 input))
@@ -55,8 +55,8 @@ WritesRead Encode input held held' = Appends held held' (text lowercase input)
 WritesRead EncodeLines input held held' = Appends held held' (join_by (text lowercase) (10 ∷ []) (pieces 30 input))
 WritesRead Decode input held held' = Wrote policy.None (unspaced input) (Appends held held')
 
--- a decoding refuses what was read, but not for an odd digit: the index in a refusal counts all bytes of it. All of it
--- was decoded and written, except for at most the last 16384 bytes
+-- decoding refuses what was read, for another reason than a last digit without a partner. The index in the error counts
+-- from the first byte read. All was decoded and written, except for at most the last 16384 bytes
 pub record RefusesStream (input : List ℕ) (left' held held' : Option (List ℕ)) (refusal : Error) : Type 0 where
   pub is_refusal : RefusedBy (spaced policy.None) input left' refusal
   pub front : List ℕ
@@ -65,7 +65,8 @@ pub record RefusesStream (input : List ℕ) (left' held held' : Option (List ℕ
   pub short : length rest ≤ longest_chunk
   pub wrote : Wrote policy.None (unspaced front) (Appends held held')
 
--- what was read is refused: for an odd digit, or too many bytes to encode, nothing of it was left out
+-- what was read is refused. If the reason is a last digit without a partner, or too many bytes to encode, the output of
+-- all that was read was written
 abbrev pub Refuses : StreamOp → List ℕ → Option (List ℕ) → Option (List ℕ) → Option (List ℕ) → Error → Type 0
 Refuses Decode input left' held held' OddLength = RefusedBy (spaced policy.None) input left' OddLength × WritesRead Decode input held held'
 Refuses Decode input left' held held' refusal = RefusesStream input left' held held' refusal

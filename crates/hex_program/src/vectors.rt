@@ -12,7 +12,8 @@ use std::alloc::{AllocError, Allocator};
 // Each byte of a destination before the call.
 const FILL: u8 = 0xa5;
 
-/// The call of a stored vector. `Encode` and `Decode` run by each plan, and the others run once.
+/// The call of a stored vector. `Encode` and `Decode` run by each plan of [`backends`](hex_core::backends),
+/// and the others run once.
 #[derive(Clone, Copy, PartialEq, Eq)]
 pub enum Call {
     /// [`Backend::encode_slice`], in uppercase if the value is true.
@@ -27,8 +28,8 @@ pub enum Call {
     /// uppercase. The source has the entry, which is a digest of two bytes, the mark and the name.
     WriteList,
     /// [`digests::read`](hex_io::digests::read) of lowercase digits. The expected result is the
-    /// number of entries, which is 1. This call has no destination, so the bytes of the destination
-    /// are the expected entry.
+    /// number of entries, which is 1. This call has no destination, so `left` has the expected entry:
+    /// its digest, its mark and its name.
     ReadList,
 }
 

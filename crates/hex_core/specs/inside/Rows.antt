@@ -37,8 +37,8 @@ short_nibble c b = bit_xor (bit_xor b (fold_of c)) (entry (nibble_row c) (b - 55
 abbrev pub digit_byte : ℕ → ℕ
 digit_byte i = if nat_lt i 48 then i + 64 else i
 
--- by the low six bits of a byte, the bits in which the digit with these bits differs from its value, or, if there
--- is none, bits in which each such byte differs from all values
+-- by the low six bits of a byte, the bits in which the digit with these bits differs from its value. If there is no
+-- such digit, it is a number that differs from each byte with these bits in bit 5, so the result is at least 16
 unfoldable pub long_row : CheckCase → List ℕ
 long_row c = map (λ i. unwrap_or (option_map (bit_xor (digit_byte i)) (value c (digit_byte i))) (bit_xor i 32)) (range_with_len 0 64)
 
