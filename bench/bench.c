@@ -18,10 +18,10 @@
 #define OLD 0xa5
 #define MOST_SIZES 160
 
-enum kind { CHECK, ENCODE, DECODE, WRITE, READ, KINDS };
+enum kind { CHECK, ENCODE, DECODE, WRITE, READ, LINES, KINDS };
 
-// The sizes, in decoded bytes, of grouped calls, and those of the other calls, which main fills in.
-static const size_t few[] = {6, 64, LARGEST, 0};
+// The sizes, in decoded bytes, of grouped calls, of texts in lines, and of the other calls, which main fills in.
+static const size_t few[] = {6, 64, LARGEST, 0}, pages[] = {PAGE, 0};
 static size_t swept[MOST_SIZES + 1];
 
 struct task {
@@ -31,12 +31,15 @@ struct task {
     size_t room;
 };
 
-// The calls of a build: those without groups, and those with groups of 1 and 16 bytes.
+// The calls of a build: those without groups, for lines of 30 and 38 bytes, and for groups of 1 and 16 bytes.
 #define OF(build, call) faster_hex_1_0_0_x86_64_##build##_##call
 #define GROUPED(build, n) \
     CALL(WRITE, build##_write_##n, OF(build, encode_grouped)(src, len, dst, room, false, n, ':').number) \
     CALL(READ, build##_read_##n, OF(build, decode_grouped)(src, len, dst, room, 0, n, ':').number)
+#define SPACED(build, n) \
+    CALL(LINES, build##_lines_##n, OF(build, decode_spaced)(src, len, dst, room, 0).number)
 #define DECODING(build) \
+    SPACED(build, 30) SPACED(build, 38) \
     CALL(CHECK, build##_check, OF(build, check)(src, len)) \
     CALL(DECODE, build##_decode, OF(build, decode)(src, len, dst, room).number)
 #define OURS(build) \
@@ -85,7 +88,8 @@ typedef size_t other(const uint8_t *src, size_t len, uint8_t *dst, size_t room);
 
 #define DECLARED_DECODING(build) \
     __typeof__(faster_hex_check) OF(build, check); \
-    __typeof__(faster_hex_decode) OF(build, decode);
+    __typeof__(faster_hex_decode) OF(build, decode); \
+    __typeof__(faster_hex_decode_spaced) OF(build, decode_spaced);
 #define DECLARED(build) \
     DECLARED_DECODING(build) \
     __typeof__(faster_hex_encode) OF(build, encode); \
@@ -132,7 +136,7 @@ static uint8_t bytes[LARGEST], lower[2 * LARGEST], mixed[2 * LARGEST];
 static uint8_t out[3 * LARGEST + PAGE] __attribute__((aligned(64)));
 
 static const size_t *sizes_of(enum kind kind) {
-    return kind == WRITE || kind == READ ? few : swept;
+    return kind == LINES ? pages : kind == WRITE || kind == READ ? few : swept;
 }
 
 // The next pseudo-random number. The numbers are the same in each run.
@@ -153,12 +157,12 @@ static void fill(void) {
     }
 }
 
-// Puts colons between groups of `every` bytes of a text, and returns its new length.
-static size_t group(uint8_t *to, const uint8_t *text, size_t size, size_t every) {
+// Puts a separator between groups of `every` bytes of a text, and returns its new length.
+static size_t group(uint8_t *to, const uint8_t *text, size_t size, size_t every, uint8_t sep) {
     size_t at = 0;
     for (size_t i = 0; i < size; i++) {
         if (i && i % every == 0) {
-            to[at++] = ':';
+            to[at++] = sep;
         }
         memcpy(to + at, text + 2 * i, 2);
         at += 2;
@@ -166,16 +170,16 @@ static size_t group(uint8_t *to, const uint8_t *text, size_t size, size_t every)
     return at;
 }
 
-// Returns the number of bytes in a group, which is at the end of the name of a grouped call.
+// Returns the number of bytes in a group or line, which is at the end of the name of the call.
 static size_t every_of(const struct call *call) {
     return strtoul(strrchr(call->name, '_') + 1, NULL, 10);
 }
 
 // Returns a task with the text in mixed case, in groups. The texts of fewer bytes are prefixes of one text.
-static struct task grouped(size_t every, size_t size) {
-    static uint8_t texts[17][3 * LARGEST];
+static struct task grouped(size_t every, uint8_t sep, size_t size) {
+    static uint8_t texts[39][3 * LARGEST];
     if (!texts[every][0]) {
-        group(texts[every], mixed, LARGEST, every);
+        group(texts[every], mixed, LARGEST, every, sep);
     }
     return (struct task){texts[every], 2 * size + (size - 1) / every, out, size};
 }
@@ -184,7 +188,8 @@ static struct task task_of(const struct call *call, size_t size) {
     switch (call->kind) {
     case ENCODE: return (struct task){bytes, size, out, 2 * size};
     case WRITE: return (struct task){bytes, size, out, 3 * size};
-    case READ: return grouped(every_of(call), size);
+    case READ: return grouped(every_of(call), ':', size);
+    case LINES: return grouped(every_of(call), '\n', size);
     default: return (struct task){mixed, 2 * size, out, size};
     }
 }
@@ -198,7 +203,7 @@ static bool is_right(const struct call *call, size_t size) {
     switch (call->kind) {
     case CHECK: return answer == 1;
     case ENCODE: return answer == 2 * size && !memcmp(out, lower, answer);
-    case WRITE: return answer == group(wanted, lower, size, every_of(call)) && !memcmp(out, wanted, answer);
+    case WRITE: return answer == group(wanted, lower, size, every_of(call), ':') && !memcmp(out, wanted, answer);
     default: return answer == size && !memcmp(out, bytes, size);
     }
 }

@@ -21,8 +21,9 @@ const OLD: u8 = 0xa5;
 /// The data that a call reads and writes.
 pub struct Task<'a> {
     pub bytes: &'a [u8],
-    /// Digits in lowercase, and with every third one in uppercase.
+    /// Digits in lowercase.
     pub lower: &'a [u8],
+    /// The same digits, with every third one in uppercase.
     pub mixed: &'a [u8],
     /// The lowercase digits and a zero behind them, as calls want them that take no length.
     pub ended: &'a [u8],

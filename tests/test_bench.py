@@ -23,6 +23,7 @@ def outputs():
     calls = [f"{build}_{call}" for build in ("v2", "v3", "sse41", "avx2", "slices_v2", "slices_v3")
              for call in ("check", "encode", "decode")]
     calls += [f"{build}_{call}_{n}" for build in ("v2", "v3", "loop") for call in ("write", "read") for n in (1, 16)]
+    calls += [f"{build}_lines_{n}" for build in ("v2", "v3") for n in (30, 38)]
     calls += [f"{build}_{plan}_{call}" for build in ("v1", "v2", "v3", "v4") for call in ("check", "encode", "decode")
               for plan in ("scalar", "avx2", "plain", "plain_32", "plain_64")]
     names = ("hex_string", "hex_decode_vec", "{}", "hex_decode_array", "hex_encode", "hex_decode", "hex_check",
