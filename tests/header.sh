@@ -6,8 +6,8 @@
 #   on the numbers of the statuses, and on the name, the result and the parameters of each function. A Source or a
 #   Destination is a pointer and a length.
 # - dispatch.c must define the functions of the header, and faster_hex.map and faster_hex.def must export them.
-# - The version must be the VERSION of the Makefile in the header, in the crate for Rust, in CMakeLists.txt, in
-#   fhex-stream, in the manual pages, in bunkmedlar.spdx and in the names of generated/.
+# - The header, the crate for Rust, CMakeLists.txt, fhex-stream, the manual pages, bunkmedlar.spdx and the names of
+#   generated/ must have the version that the Makefile calls VERSION.
 # - Each PROVED in generated/ must fit the sources, its files, and the prover that CALLING.md names.
 set -eu
 case ${1-} in -h | --help) sed '1d; /^#/!q; s/^# \{0,1\}//' "$0" && exit ;; esac

@@ -104,7 +104,7 @@ def drawn(call, length, chance):
 
 
 def before(case, at, chance):
-    """The registers before a call. Those without an argument are random, and so is what is above one of a byte."""
+    """The registers before a call. What no argument fills is random: whole registers, and the bits above a byte."""
     it = Registers([chance.getrandbits(64) for _ in range(31)], STACK - FRAME, at, chance.randrange(16) << 28,
                    [chance.getrandbits(128) for _ in range(32)])
     known = {"source": SOURCE - case.length, "length": case.length, "destination": DESTINATION - case.room,

@@ -147,7 +147,7 @@ def test_another_build(image):
 @pytest.mark.quick
 def test_record():
     """generated/SHOWN was written for these sources, and has each call of each build. Paths executed all
-    instructions of each function, except for those that LEFT counts."""
+    instructions of each function, except for those that LEFT counts, and for those of `decode_spaced`."""
     text = (GENERATED / "SHOWN").read_text()
     assert text.startswith(sums())
     lines = text.removeprefix(sums()).splitlines()

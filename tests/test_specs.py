@@ -1,6 +1,7 @@
 """Whether the links of all pages lead somewhere, and some pages are as short as they should be, whether specs/inside/
-has exactly the definitions that no public contract uses, and whether the definitions that CALLING.md, design.md,
-theorem.md and definitions.md name exist. Uses are found by the words of contracts."""
+has exactly the definitions that no public contract uses, whether the definitions that CALLING.md and theorem.md name
+exist, and whether definitions.md explains what the files of theorem.md import. Uses are found by the words of
+contracts."""
 import functools
 import re
 

@@ -8,7 +8,7 @@
  *         std::vector<unsigned char> key = faster_hex::decode("01fF");     // 1, 255
  *         std::string digits = faster_hex::encode(key);                    // "01ff"
  *     } catch (const faster_hex::error &why) {
- *         std::cerr << why.what() << " at index " << why.answer.number << "\n";
+ *         std::cerr << why.what() << "\n";
  *     }
  */
 #ifndef FASTER_HEX_HPP

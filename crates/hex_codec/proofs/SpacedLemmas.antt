@@ -25,7 +25,7 @@ use Rattle.hex_codec.specs.Spaced.{first_invalid_spaced, is_solid, is_invalid_sp
 pub unspaced-le : (s : List ℕ) → length (unspaced s) ≤ length s
 unspaced-le s = omega (arith, length-filter_both is_solid (λ b. not (is_solid b)) (λ _. refl) s)
 
--- a test passes at none that a filter keeps exactly where both pass at none
+-- no byte passes both tests exactly where no byte that `q` keeps passes `p`
 none-kept : (p q : ℕ → Bool) (s : List ℕ) → (position (λ b. q b && p b) s ≡ None) ↔ (position p (filter q s) ≡ None)
 none-kept p q [] = (λ _. refl, λ _. refl)
 none-kept p q (b ∷ s) = by_first (q b) (p b) refl refl (none-kept p q s)

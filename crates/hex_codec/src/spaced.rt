@@ -1,9 +1,9 @@
 //! Decoding of digits with white space among them.
 //!
 //! A source is read twice: first all of it is tested, then it is decoded. Texts usually have lines of
-//! one length, so both assume that a line is like the one before it, and search its end only if it
-//! is not. The lines at the start of the source, up to the first one of another form, are decoded
-//! without a second test. Later lines are not remembered, so they are tested again.
+//! one length, so both passes expect a line to be like the one before it, and look for its end only
+//! if it is not. The lines at the start of the source, up to the first one of another form, are
+//! decoded without a second test. Later lines are not remembered, so they are tested again.
 
 ghost use Rattle.std.specs.Prelude.{◌≡◌, ◌≢◌, ◌↔◌, ◌+◌, ◌*◌, ◌%◌, ◌/◌, ◌<◌, ◌≤◌, ◌-◌, ◌∷◌, [], drop, take, IsSome, IsTrue, None, Some, length, option_map, position, slice_index};
 ghost use Rattle.hex_core.specs.declared.error.Error.TheVariants.{InvalidChar};
@@ -132,8 +132,8 @@ fn lines_of(plan: Backend, src: &[u8], case: CheckCase) -> Lines
     Lines { len, gap, count }
 }
 
-// Returns the number of lines. The arms for usual lengths are alike, so that the compiler makes a loop for
-// each of them, in which the length is not compared again.
+// Returns the number of lines. All arms do the same, but usual lengths have arms of their own, so that the
+// compiler makes a loop for each range, in which the length is not compared again.
 #[inline(never)]
 fn line_count(plan: Backend, src: &[u8], len: usize, gap: usize, case: CheckCase) -> usize
     requires even { len % 2 ≡ 0 }
@@ -242,7 +242,7 @@ fn invalid_error(src: &[u8], case: CheckCase) -> Error
 }
 
 // Returns the number of bytes before the first byte that is at most a space, as all white space is, but
-// at most `LONGEST_RUN`. The first byte of the source always counts, even if it is white space.
+// at most `LONGEST_RUN`. If the source begins with such a byte, it counts, and more may count.
 #[inline(never)]
 fn run_len(src: &[u8]) -> usize
     ensures some { 0 < length src.now → 0 < result }

@@ -94,8 +94,8 @@ pub fn hex_append_into<A: Allocator>(
 /// Appends the lowercase digits of all of `src` to the text of `dst`. Returns only the new part of
 /// the text, which has `2 * src.len()` bytes.
 ///
-/// If the spare capacity of `dst` suffices, it allocates nothing. Otherwise it allocates once, and
-/// exactly what is missing. If you append many times to one string, reserve its capacity first.
+/// If the spare capacity of `dst` suffices, it allocates nothing. Otherwise it allocates once, for
+/// exactly the new text. If you append many times to one string, reserve its capacity first.
 ///
 /// # Errors
 ///

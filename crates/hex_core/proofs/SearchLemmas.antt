@@ -153,7 +153,7 @@ none_is_all_valid c s = (none_valid c s, first_invalid_none c s)
 pub part_is_valid : (c : CheckCase) (s : List ℕ) (start end : ℕ) → end ≤ length s → (first_invalid c (slice_range s start end) ≡ None) ↔ AllValid c s start end
 part_is_valid c s start end inside = (valid_part c s start end inside, part_valid c s start end inside)
 
--- and so is a test of the one one of the other
+-- so what tests that a part has no invalid byte tests that all bytes of its range are valid
 pub part_tested : (c : CheckCase) (s : List ℕ) (start end : ℕ) (t : Bool) → end ≤ length s → IsTrue t ↔ (first_invalid c (slice_range s start end) ≡ None) → IsTrue t ↔ AllValid c s start end
 part_tested c s start end t inside test = (
   λ passed. valid_part c s start end inside (test.0 passed),

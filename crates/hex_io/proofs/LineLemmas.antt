@@ -16,10 +16,11 @@ use Rattle.hex_io.specs.Lists.{LineIs, ReadFailure, line_fault, lines_of, withou
 abbrev pub newline : ℕ → Bool
 newline b = b == 10
 
--- a list without a newline
+-- a byte that is not a newline
 abbrev pub NoNewline : ℕ → Type 0
 NoNewline b = newline b ≡ false
 
+-- a list without a newline
 abbrev pub OneLine : List ℕ → Type 0
 OneLine s = All NoNewline s
 

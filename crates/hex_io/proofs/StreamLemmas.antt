@@ -14,7 +14,7 @@ use Rattle.hex_io.proofs.DecoderLemmas.{none-refused, refused-byte}
 use Rattle.hex_io.specs.Stream.{RefusedBy}
 use Rattle.hex_io.specs.declared.stream.decoder.Reading.{Reading}
 
--- what a chunk that has room is refused for: that all are too many, or a invalid byte
+-- why a chunk that has room is refused: there are too many bytes in all, or one is invalid
 pub refused-for : (P : Error → Type 0) (r : Reading) (fed src : List ℕ) (room : ℕ) (e : Error) → pairs_more (length (digits_in r fed)) (length (digits_in r src)) ≤ room
     → feed_refusal r fed src room ≡ Some e
     → (2 ^ 64 ≤ length (fed ++ src) → P Overflow) → ((i b : ℕ) → invalid_read_of r (fed ++ src) ≡ Some (InvalidChar i b) → P (InvalidChar i b)) → P e

@@ -172,7 +172,7 @@ pub fn serve_in<A: Allocator, R: Read, W: Write, E: Write>(
 /// | 3 | the input is longer than the limit | `input too long` |
 ///
 /// After `write failed`, a leading part of the output may have been written to `out`. After any
-/// other failure nothing was written there.
+/// other message nothing was written there.
 ///
 /// Nothing is tried again after an error of the reader or of a writer. An error of `err` ends the
 /// line, and does not change the status. The contract says which bytes were read and written if the

@@ -49,7 +49,7 @@ pub struct Vector<'a> {
     pub left: &'a [u8],
 }
 
-// There is one vector in each line: name, call, source, result and destination.
+// A vector is written as its name, call, source, result and destination.
 macro_rules! vectors {
     ($($name:literal $call:expr, $source:expr, $answer:expr, $left:expr;)*) => {
         [$(Vector { name: $name, call: $call, source: $source, answer: $answer, left: $left }),*]

@@ -131,8 +131,9 @@ fn a_vector_fails_unless_all_that_it_states_is_right(rt: HostRuntime) {
 }
 
 // A vector of groups fails for a separator elsewhere, a byte behind the text, another case, another place of an error,
-// and a changed destination; one that reads a list for another digest, mark or name, digits of another policy, a second
-// entry and no list; one that writes a list for another case, mark or name, fewer bytes, another number and none.
+// or a changed destination. One that reads a list fails for another digest, mark, name or number, digits of another
+// policy, a second entry, or no list. One that writes a list fails for another case, mark, name or number, for fewer or
+// more bytes, or for no entry.
 #[test]
 fn a_vector_of_groups_or_lists_fails_unless_all_is_right(rt: HostRuntime) {
     let mut vectors = Vectors::new(rt.alloc());

@@ -30,7 +30,7 @@ impl Random {
         (0..len).map(|_| self.below(256) as u8).collect()
     }
 
-    /// Digits of both cases, of one, or of none, in one of four with a byte that may be none.
+    /// Digits of both cases, of lowercase, or of uppercase. In one of four texts, one byte may be any byte.
     fn digits(&mut self, len: usize) -> Vec<u8> {
         let letters: &[u8] = [&b"0123456789abcdefABCDEF"[..], b"0123456789abcdef", b"0123456789ABCDEF"]
             [self.below(3)];

@@ -1,8 +1,8 @@
 //! Calls the bindings and the Rust crate on the same random inputs, and on strings of all lengths up to 4,200. It
 //! compares answers, texts of errors, whole destinations, capacities, and the number and size of allocations. The
 //! table in `calls` has every public name of both. `tests/test_swap.py` builds and runs it. For each kind of call
-//! it prints the first input on which the two differ. The last line is `N passed, M failed`, which counts kinds of
-//! calls.
+//! it prints the first round in which the two differ. The last line is `N passed, M failed`, which counts the kinds
+//! of calls, the two tables of names, and the strings.
 //! Usage: beside ROUNDS SEED
 
 mod given;
