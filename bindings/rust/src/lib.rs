@@ -90,8 +90,8 @@
 //! # Platforms
 //!
 //! There is assembly for x86-64 and aarch64 on Linux, FreeBSD, NetBSD and macOS, and for x86-64 on Windows with the
-//! GNU toolchain. On all other targets, also on bare metal and under Miri, the calls are plain Rust, which is tested and
-//! **not proved**.
+//! GNU toolchain. On all other targets, also on bare metal and under Miri, the calls are plain Rust, which is tested
+//! and **not proved**.
 //!
 //! On x86-64 the first call asks the processor which of five builds it can run: x86-64, x86-64-v2, x86-64-v3 with
 //! AVX2, or x86-64-v4 and x86-64-vbmi, which check and decode with AVX-512 and AVX-512 VBMI. All builds return the
