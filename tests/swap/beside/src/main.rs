@@ -1,8 +1,8 @@
 //! Calls the bindings and the Rust crate on the same random inputs, and on strings of all lengths up to 4,200. It
 //! compares answers, texts of errors, whole destinations, capacities, and the number and size of allocations. The
-//! table in `calls` has every public name of both. `tests/test_swap.py` builds and runs it. For each kind of call
-//! it prints the first round in which the two differ. The last line is `N passed, M failed`, which counts the kinds
-//! of calls, the two tables of names, and the strings.
+//! table in `calls` has every public name of both, and `ADDED` those of the bindings alone. `tests/test_swap.py`
+//! builds and runs it. For each kind of call it prints the first round in which the two differ. The last line is
+//! `N passed, M failed`, which counts the kinds of calls, the two tables of names, and the strings.
 //! Usage: beside ROUNDS SEED
 
 mod given;
@@ -200,7 +200,10 @@ macro_rules! calls {
 calls!(ours, faster_hex);
 calls!(theirs, original);
 
-/// The names that a crate's root re-exports, which are all that are public.
+/// The names that only the bindings have.
+const ADDED: [&str; 2] = ["hex_decode_spaced", "hex_decode_spaced_with_case"];
+
+/// The names that a crate's root re-exports.
 fn public(root: &str) -> BTreeSet<&str> {
     let statements = root.split("pub use ").skip(1).map(|it| it.split(';').next().unwrap());
     let names = statements.map(|it| it.rsplit("::").next().unwrap());
@@ -223,11 +226,12 @@ fn main() {
     };
     let mut failed = 0;
     let table: BTreeSet<&str> = ours::CALLS.iter().flat_map(|it| it.0.split(' ')).collect();
+    let of_ours = table.iter().copied().chain(ADDED).collect();
     let root_of_ours = include_str!("../../../../bindings/rust/src/lib.rs");
-    for root in [root_of_ours, include_str!("../../../../checkout/src/lib.rs")] {
+    for (root, wanted) in [(root_of_ours, of_ours), (include_str!("../../../../checkout/src/lib.rs"), table)] {
         let names = public(root);
-        if names != table {
-            println!("failed: the table of calls: {:?}", &names ^ &table);
+        if names != wanted {
+            println!("failed: the table of calls: {:?}", &names ^ &wanted);
             failed += 1;
         }
     }
