@@ -1,5 +1,5 @@
-"""Examples, `fhex decode` and `fhex vectors` with failing allocations: each fails once, but of `vectors` only two. It
-takes some minutes. A growth is an allocation or a reallocation, and the runs count them from 1."""
+"""Runs the examples, `fhex decode` and `fhex vectors` with an allocation that fails: each one in turn, but only two of
+those of `vectors`. It takes some minutes. A growth is an allocation or a reallocation. The runs count them from 1."""
 import re
 
 import pytest

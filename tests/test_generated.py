@@ -50,7 +50,7 @@ def body_of(text, call):
 
 
 def shuffles_wide(text):
-    """Whether the build encodes blocks of 32 bytes. Only then it exchanges the middle quarters of the digits of 16
+    """Whether `encode` uses vectors of 32 bytes, as `Halved` does. Only then it exchanges the middle quarters of 32
     bytes with each other, in one instruction or in several."""
     return bool(re.search(r"\tvpermq|\tpunpck[lh]qdq|\tzip[12]\tv\d+\.2d", body_of(text, "encode")))
 
