@@ -2,8 +2,8 @@
 # Usage: awk -v level=LEVEL -f library.awk, where LEVEL is the number that `level` of faster_hex_c returns in this
 # build.
 
-# `level` is a function without a body here. Its number stands in place of the one call, so that the plans for other
-# numbers become code that nothing reaches.
+# `level` has a contract here, but no body. Its number replaces the one call, so that no code reaches the plans for
+# other numbers.
 { edits += gsub(/call i8 @"faster_hex_c::level"\(\)/, "add i8 0, " level) }
 
 # Levels 4 and 5 were proved for the processor of level 3, because `rattle` knows no processor with AVX-512. From here

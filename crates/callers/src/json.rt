@@ -45,8 +45,8 @@ pub fn record_id(fields: &Value) -> Result<Option<[u8; 4]>, AdapterError>
     }
 }
 
-/// Returns the value of such a field for an identifier. The value is read as the same identifier.
-/// It fails only if memory runs out.
+/// Returns the value of a field `id` for an identifier. [`record_id`] reads it as the same
+/// identifier. The only possible error is a failed allocation.
 ///
 /// ```rust
 /// let id = write_id(rt.alloc(), &[0xab, 1, 0, 0xff])?;

@@ -18,8 +18,8 @@ use std::simd::prelude::*;
 // The number of bytes that are searched at once for the end of a run.
 const LANES: usize = 32;
 
-// A run is the bytes up to the next one that is at most a space, but at most this number of bytes. So a long
-// run is not searched to its end.
+// A run is the bytes before the next one that is at most a space, but at most this number of bytes, so that a
+// long text without white space is not searched to its end.
 const LONGEST_RUN: usize = 192;
 
 // Lines of digits at the start of a source. Each has `len` digits, which is an even number, and then `gap`
@@ -39,7 +39,7 @@ struct Lines {
 /// `xxd -p` and `openssl rand -hex` print. The bytes of `dst` after the written ones are unchanged.
 /// If `src` has no digits, the result is 0 and nothing changes.
 ///
-/// The time depends on where the white space is.
+/// This function is not constant time: do not use it for keys.
 ///
 /// # Errors
 ///
@@ -242,7 +242,8 @@ fn invalid_error(src: &[u8], case: CheckCase) -> Error
 }
 
 // Returns the number of bytes before the first byte that is at most a space, as all white space is, but
-// at most `LONGEST_RUN`. If the source begins with such a byte, it counts, and more may count.
+// at most `LONGEST_RUN`. The first byte always counts. If it is itself at most a space, bytes after it may count
+// too, up to the next such byte.
 #[inline(never)]
 fn run_len(src: &[u8]) -> usize
     ensures some { 0 < length src.now → 0 < result }

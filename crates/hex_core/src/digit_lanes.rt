@@ -103,9 +103,9 @@ fn check_row(case: CheckCase) -> u8x16
     u8x16::from_array(CHECK_ROWS[case as u8 as usize])
 }
 
-// Returns the hash of each lane. Its low four bits are the index in the other rows, and no other
-// lane changes them. If the byte is below 128, a look-up ignores the higher bits of its hash. No
-// byte from 128 on is valid.
+// Returns the hash of each lane. Its low four bits are the index in the other rows, and depend on
+// this lane alone. The hash of a byte below 128 is below 128 too, so a look-up ignores its higher
+// bits. A byte from 128 on is invalid, whatever its look-up gives.
 #[inline(always)]
 fn hashes<const N: usize>(v: Simd<u8, N>) -> Simd<u8, N>
 where

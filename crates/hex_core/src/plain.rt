@@ -1,7 +1,7 @@
 //! The plan `plain`, which functions without a plan parameter use. It holds a short source in
 //! registers, and reads a longer one in blocks. Measurements decided which implementation is used
-//! for which lengths, and docs/DECISIONS.md has the gains. This source indexes no table in memory by
-//! a byte of its input, which may be secret. docs/security.md says what is known of the machine code.
+//! for which lengths, and docs/DECISIONS.md has the gains. This file indexes no table in memory by a
+//! byte of a source, which may be secret. docs/security.md says what is known of the machine code.
 //!
 //! A function whose name ends with `_outlined` is a function of its own only for the compilers: its
 //! code is too long to be inlined, or its callers would then be too long.

@@ -38,8 +38,8 @@ struct Reading {
 /// pair. Its outputs, joined, are the bytes of all digits fed, except for a digit that waits. The
 /// lengths of the chunks do not matter. Nothing is allocated.
 ///
-/// An error is about the digits that were fed so far. For example, a chunk `0g1` gives the invalid
-/// byte `g`, but one call for these three bytes gives the odd length.
+/// An error is about the digits that were fed so far. For example, `feed` returns the invalid byte
+/// `g` for the chunk `0g1`, but `hex_decode` returns the odd length for these three bytes.
 ///
 /// ```rust
 /// let mut decoder = Decoder::new(CheckCase::None);
