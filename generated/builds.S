@@ -1,4 +1,4 @@
-/* The builds for the processor, after the macros of the format of its object files; without any, nothing. */
+/* Includes the macros for the format of the object files, and then the builds for the processor, if there are any. */
 #include "../crates/faster_hex_c/assembly.h"
 
 /* For ELF: no stack is executed, every place where an indirect branch may come out is marked, and no return address

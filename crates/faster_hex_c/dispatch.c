@@ -5,8 +5,8 @@
  * system can run. For aarch64 there is one build. Where assembly.h finds none, the calls are those of portable.h.
  *
  * A constructor writes the level of the processor once. A call that is made before that, for example by another
- * constructor, uses the first build, which runs on each of these processors. The calls choose by branches and not
- * by pointers, so that a linker can leave out the calls that a program does not make. */
+ * constructor, uses the baseline build x86-64, which each of these processors can run. The calls choose by branches
+ * and not by pointers, so that a linker can leave out the calls that a program does not make. */
 #include "assembly.h"
 #include "faster_hex.h"
 #if defined FASTER_HEX_X86_64 || defined FASTER_HEX_AARCH64

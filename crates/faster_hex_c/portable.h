@@ -1,5 +1,5 @@
-/* The calls of faster_hex.h in plain C, a byte at a time: for processors and systems without a build. They
- * are not proved: tests compare them with the builds. */
+/* The calls of faster_hex.h in plain C, which take one byte at a time, for processors and systems without a build.
+ * They are not proved, but tests compare them with the builds. */
 #include "faster_hex.h"
 
 typedef struct faster_hex_answer answer;
@@ -29,6 +29,7 @@ static size_t span_of(size_t every) {
     return every <= SIZE_MAX / 2 ? 2 * every + 1 : SIZE_MAX;
 }
 
+/* Returns the first byte that is no digit, or no separator where one must be. */
 static answer search(const uint8_t *src, size_t len, uint8_t policy, size_t every, uint8_t sep) {
     for (size_t at = 0, digits = span_of(every) - 1; at < len; at++) {
         bool separates = digits == 0;
@@ -40,6 +41,7 @@ static answer search(const uint8_t *src, size_t len, uint8_t policy, size_t ever
     return answer_of(FASTER_HEX_DONE, 0);
 }
 
+/* Encodes in groups. */
 static answer write_groups(const uint8_t *src, size_t len, uint8_t *dst, size_t room, bool upper,
                          size_t every, uint8_t sep) {
     const char *digits = upper ? "0123456789ABCDEF" : "0123456789abcdef";
@@ -57,6 +59,8 @@ static answer write_groups(const uint8_t *src, size_t len, uint8_t *dst, size_t 
     return answer_of(FASTER_HEX_DONE, required);
 }
 
+/* Decodes a text in groups. `bad_length` is the status for a length that no text has: without groups this is an odd
+ * length. */
 static answer read_groups(const uint8_t *src, size_t len, uint8_t *dst, size_t room, uint8_t policy,
                         size_t every, uint8_t sep, uint8_t bad_length) {
     size_t rest = len % span_of(every), required = len / span_of(every) * every + rest / 2;
