@@ -1,12 +1,20 @@
-/* encode, decode, decode_spaced and build for C++17 and later. faster_hex.h describes how the library behaves.
+/* encode, decode, decode_spaced, written and build for C++17 and later. faster_hex.h describes how the library behaves.
  *
- * encode returns digits as std::string, and decode returns bytes as std::vector. Both accept any type with data() and
- * size(), such as std::string, std::string_view, std::vector and std::span, arrays of unsigned char and std::byte,
- * and a pointer with a length. An error is thrown as faster_hex::error. Example:
+ * encode returns digits as std::string, and decode and decode_spaced return bytes as std::vector. All three accept any
+ * type with data() and size() whose elements are bytes, such as std::string, std::vector and std::span, and arrays of
+ * unsigned char and std::byte. encode and decode also accept a pointer with a length. decode and decode_spaced also
+ * accept a char * and an array of characters, such as a string literal, which end before the first zero. decode can
+ * also write to a destination. An error is thrown as faster_hex::error. A new string or vector may also throw
+ * std::bad_alloc or std::length_error.
+ *
+ * For keys, call the functions of faster_hex.h. decode_spaced is not constant time, and encode and decode were not
+ * examined for it.
+ *
+ * Example:
  *
  *     try {
- *         std::vector<unsigned char> key = faster_hex::decode("01fF");     // 1, 255
- *         std::string digits = faster_hex::encode(key);                    // "01ff"
+ *         std::vector<unsigned char> bytes = faster_hex::decode("01fF");   // 1, 255
+ *         std::string digits = faster_hex::encode(bytes);                  // "01ff"
  *     } catch (const faster_hex::error &why) {
  *         std::cerr << why.what() << "\n";
  *     }
@@ -30,6 +38,7 @@
 
 namespace faster_hex {
 
+/* Whether the digits above 9 are written in lowercase or uppercase. */
 enum class letters : bool { lowercase, uppercase };
 
 /* Which letters are accepted as digits. */
@@ -47,7 +56,8 @@ public:
     faster_hex_answer answer;
 };
 
-/* Returns how many bytes a call wrote. Throws its error if it reports one. */
+/* Returns how many bytes a call wrote. Throws its error if it reports one. You can use it for the calls of faster_hex.h
+ * that have no form for C++, such as faster_hex_encode_grouped. */
 inline std::size_t written(const faster_hex_answer &told) {
     if (told.status != FASTER_HEX_DONE) throw error(told);
     return told.number;
@@ -60,18 +70,19 @@ inline std::size_t written(const faster_hex_answer &told) {
     return digits;
 }
 
+/* Whether a value is an array of characters, such as a string literal, or a pointer to characters. */
+template <class Text> inline constexpr bool is_text =
+#ifdef __cpp_char8_t
+    std::is_convertible_v<const Text &, const char8_t *> ||
+#endif
+    std::is_convertible_v<const Text &, const char *>;
+
 /* Returns the digits of the bytes of a vector, a string, an array and the like. A string literal or a char * does not
  * compile, because it is not clear whether its final zero is meant. */
 template <class Bytes> [[nodiscard]] std::string encode(const Bytes &src, letters by = letters::lowercase) {
-#ifdef __cpp_char8_t
-    constexpr bool is_u8 = std::is_convertible_v<const Bytes &, const char8_t *>;
-#else
-    constexpr bool is_u8 = false;
-#endif
-    constexpr bool is_text = is_u8 || std::is_convertible_v<const Bytes &, const char *>;
-    static_assert(!is_text, "the zero at the end of a string literal or a char * is none of its bytes: "
+    static_assert(!is_text<Bytes>, "the zero at the end of a string literal or a char * is none of its bytes: "
                             "write std::string_view(text), or a pointer and a length");
-    if constexpr (is_text) {
+    if constexpr (is_text<Bytes>) {
         return {};
     } else {
         static_assert(sizeof *std::data(src) == 1, "the elements must be bytes");
@@ -94,10 +105,11 @@ inline std::size_t decode(const void *digits, std::size_t len, void *dst, std::s
     return bytes;
 }
 
-/* Returns a view of digits. A char * or an array of char ends before its first zero. Everything else is taken whole. */
+/* For decode and decode_spaced: returns a view of digits. A char * or an array of char ends before its first zero.
+ * Everything else is taken whole. */
 template <class Digits> std::string_view digits_of(const Digits &src) {
-    if constexpr (std::is_array_v<Digits> && std::is_convertible_v<const Digits &, const char *>) {
-        const std::string_view whole(src, std::size(src));
+    if constexpr (std::is_array_v<Digits> && is_text<Digits>) {
+        const std::string_view whole(reinterpret_cast<const char *>(src), std::size(src));
         return whole.substr(0, whole.find('\0'));
     } else if constexpr (std::is_convertible_v<const Digits &, std::string_view>) {
         return src;
@@ -107,7 +119,8 @@ template <class Digits> std::string_view digits_of(const Digits &src) {
     }
 }
 
-/* Decodes a string, a vector, an array and the like to the front of the `room` bytes at dst. */
+/* Decodes a string, a vector, an array and the like to the front of the `room` bytes at dst. Returns how many bytes it
+ * wrote. After an error nothing was written. */
 template <class Digits> std::size_t decode(const Digits &digits, void *dst, std::size_t room,
                                            policy by = policy::either_case) {
     const std::string_view text = digits_of(digits);
@@ -121,7 +134,8 @@ template <class Digits> [[nodiscard]] std::vector<unsigned char> decode(const Di
     return decode(text.data(), text.size(), by);
 }
 
-/* Decodes as `decode` does, but skips ASCII white space among the digits, and takes no pointer with a length. */
+/* Returns the bytes that the digits of a string, a vector, an array and the like stand for, and skips ASCII white space
+ * among them. It has no form for a pointer with a length, and none that writes to a destination. */
 template <class Digits> [[nodiscard]] std::vector<unsigned char> decode_spaced(const Digits &digits,
                                                                                policy by = policy::either_case) {
     const std::string_view text = digits_of(digits);
@@ -136,8 +150,8 @@ template <class Digits> [[nodiscard]] std::vector<unsigned char> decode_spaced(c
     return faster_hex_build();
 }
 
-/* Whether a value of this type is no length, but would be converted to one: a truth value, or the number of a policy
- * for C. */
+/* Whether a value of this type is a truth value, or the number of a policy for C. The compiler would convert it to a
+ * length: encode(text, true) with a char * would encode one byte. */
 template <class Value> inline constexpr bool is_no_length =
     std::is_same_v<Value, bool> || std::is_same_v<Value, decltype(FASTER_HEX_EITHER_CASE)>;
 

@@ -40,6 +40,7 @@ static void values() {
     count(faster_hex::encode("hello", 5) == "68656c6c6f", "encode of a pointer and a length");
     count(faster_hex::encode(std::string()).empty(), "encode of nothing");
     count(faster_hex::decode("00aBfF") == list, "decode");
+    count(faster_hex::decode(u8"00aBfF") == list && faster_hex::decode_spaced(u8"00 aBfF") == list, "a u8 literal");
     count(faster_hex::decode_spaced(" 00a\nB fF\r\n") == list, "decode with white space");
     count(faster_hex::decode_spaced("00 ABFF", policy::uppercase) == list, "white space and a policy");
     count(refused([] { return faster_hex::decode_spaced("00 0g"); }).number == 4, "an invalid byte behind a space");
