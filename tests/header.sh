@@ -6,7 +6,7 @@
 #   on the numbers of the statuses, and on the name, the result and the parameters of each function. A Source or a
 #   Destination is a pointer and a length.
 # - dispatch.c must define the functions of the header, and faster_hex.map and faster_hex.def must export them.
-# - The header, the crate for Rust, CMakeLists.txt, fhex-stream, the manual pages, bunkmedlar.spdx and the names of
+# - The header, our Rust crate, CMakeLists.txt, fhex-stream, the manual pages, bunkmedlar.spdx and the names of
 #   generated/ must have the version that the Makefile calls VERSION.
 # - Each PROVED in generated/ must fit the sources, its files, and the prover that CALLING.md names.
 set -eu
@@ -53,7 +53,9 @@ versions() {
     sed -n 's/^PackageVersion: \([0-9.]*\)\(+bunkmedlar\)*$/bunkmedlar.spdx \1/p' ../../bunkmedlar.spdx
     sed -n 's/^project(.* VERSION \([0-9.]*\) .*/CMakeLists.txt \1/p' ../../CMakeLists.txt
     sed -n 's/^const VERSION: &str = "\(fhex-stream\) \(.*\)";$/\1 \2/p' ../hex_program/src/stream.rt
-    sed -n 's/^\.TH \([A-Z_]*\) .* "Bunkmedlar \([0-9.]*\)" .*/\1 \2/p' ../../docs/*.[13]
+    sed -n 's/^\.TH \([A-Z_-]* [13]\) .* "Bunkmedlar \([0-9.]*\)" .*/\1\n\2/p' ../../docs/*.[13] | paste -d ' ' - - |
+        tr -d '()' | sed 's/ \([13]\) /.\1 /'
+    grep -L '^\.TH [A-Z_-]* [13] .* "Bunkmedlar [0-9.]*" ' ../../docs/*.[13] | sed 's/$/ none/'
     sed -n 's/^\thex_export\tfaster_hex_\([0-9]*\)_\([0-9]*\)_\([0-9]*\)_\(.*\)/\4 \1.\2.\3/p' ../../generated/*.s
 }
 

@@ -151,6 +151,7 @@ def test_definitions():
 
 
 def test_lines_of_scripts_and_tests():
-    """No line of a script or a test has more than 120 characters."""
-    those = [it for it in own_files() if re.match("(scripts|tests|bench)/", it) and not re.search(r"\.(md|svg)$", it)]
+    """No line of a script, a test or a source in C or Rust has more than 120 characters."""
+    sources = r"(scripts|tests|bench|bindings)/|crates/.*\.(c|h|hpp)$"
+    those = [it for it in own_files() if re.match(sources, it) and not re.search(r"\.(md|svg)$", it)]
     assert [it for it in those if re.search(".{121}", (TOP / it).read_text(encoding="utf-8"))] == []
