@@ -149,58 +149,59 @@ fn are_written(bytes: &[u8], upper: bool, want: &[u8]) -> bool {
     }
 }
 
-// Tries a call with a block.
-fn tries(seen: &mut Seen, call: Call, case: CheckCase, bytes: &[u8], want: &[u8]) {
-    seen.tries();
-    let given = Given::new(case, bytes.len(), bytes);
-    seen.is(given, call.name(), call.gives(case, bytes, want), true);
+// The calls of a test.
+#[derive(Drop)]
+struct Lanes {
+    seen: Seen,
 }
 
-// Tries a byte in each lane among digits. `digit` and `byte` are pairs of a byte and what the call gives for it.
-fn in_each_lane(
-    seen: &mut Seen,
-    call: Call,
-    case: CheckCase,
-    width: usize,
-    digit: (u8, u8),
-    byte: (u8, u8),
-) {
-    for lane in 0..width {
-        let (bytes, want) = (
-            with([digit.0; 64], lane, byte.0),
-            with([digit.1; 64], lane, byte.1),
-        );
-        tries(seen, call, case, first(&bytes, width), first(&want, width));
+impl Lanes {
+    fn new() -> Lanes {
+        Lanes { seen: Seen::new() }
+    }
+
+    // Tries a call with a block of `width` bytes.
+    fn tries(&mut self, call: Call, case: CheckCase, width: usize, bytes: &[u8], want: &[u8]) {
+        let (bytes, want) = (first(bytes, width), first(want, width));
+        self.tries_all(call, case, bytes, want);
+    }
+
+    // Tries a call with a block of all these bytes.
+    fn tries_all(&mut self, call: Call, case: CheckCase, bytes: &[u8], want: &[u8]) {
+        self.seen.tries();
+        let given = Given::new(case, bytes.len(), bytes);
+        let is_given = call.gives(case, bytes, want);
+        self.seen.is(given, call.name(), is_given, true);
+    }
+
+    // Tries a byte in each lane among digits. `digit` and `byte` are pairs of a byte and what the call gives for it.
+    fn in_each_lane(
+        &mut self,
+        call: Call,
+        case: CheckCase,
+        width: usize,
+        digit: (u8, u8),
+        byte: (u8, u8),
+    ) {
+        for lane in 0..width {
+            let bytes = with([digit.0; 64], lane, byte.0);
+            let want = with([digit.1; 64], lane, byte.1);
+            self.tries(call, case, width, &bytes, &want);
+        }
     }
 }
 
 #[test]
 fn bytes_of_a_block_are_admitted(rt: HostRuntime) {
-    let mut seen = Seen::new();
+    let mut lanes = Lanes::new();
     let bytes =
         b"0123456789ABCDEFabcdef/:@G`g\x7f\x80\xb0\xfffedcbaFEDCBA9876543210 xX-_\n\r\0\xc3\xa9";
-    for (case, letters) in [
-        (
-            Either,
-            b"yyyyyyyyyyyyyyyyyyyyyynnnnnnnnnnyyyyyyyyyyyyyyyyyyyyyynnnnnnnnnn",
-        ),
-        (
-            Lower,
-            b"yyyyyyyyyynnnnnnyyyyyynnnnnnnnnnyyyyyynnnnnnyyyyyyyyyynnnnnnnnnn",
-        ),
-        (
-            Upper,
-            b"yyyyyyyyyyyyyyyynnnnnnnnnnnnnnnnnnnnnnyyyyyyyyyyyyyyyynnnnnnnnnn",
-        ),
-    ] {
+    let either = b"yyyyyyyyyyyyyyyyyyyyyynnnnnnnnnnyyyyyyyyyyyyyyyyyyyyyynnnnnnnnnn";
+    let lower = b"yyyyyyyyyynnnnnnyyyyyynnnnnnnnnnyyyyyynnnnnnyyyyyyyyyynnnnnnnnnn";
+    let upper = b"yyyyyyyyyyyyyyyynnnnnnnnnnnnnnnnnnnnnnyyyyyyyyyyyyyyyynnnnnnnnnn";
+    for (case, letters) in [(Either, either), (Lower, lower), (Upper, upper)] {
         for width in [16, 32, 64] {
-            tries(
-                &mut seen,
-                Call::Admit,
-                case,
-                first(bytes, width),
-                first(letters, width),
-            );
+            lanes.tries(Call::Admit, case, width, bytes, letters);
         }
     }
     for (case, others) in [
@@ -210,32 +211,19 @@ fn bytes_of_a_block_are_admitted(rt: HostRuntime) {
     ] {
         for width in [16, 32, 64] {
             for i in 0..others.len() {
-                in_each_lane(
-                    &mut seen,
-                    Call::Admit,
-                    case,
-                    width,
-                    (b'0', b'y'),
-                    (others[i], b'n'),
-                );
+                lanes.in_each_lane(Call::Admit, case, width, (b'0', b'y'), (others[i], b'n'));
             }
         }
     }
-    ends(&rt, seen.ended(793));
+    ends(&rt, lanes.seen.ended(793));
 }
 
 // A byte that is no digit has the nibble that saturating sums and differences leave.
 #[test]
 fn saturating_nibbles(rt: HostRuntime) {
-    let mut seen = Seen::new();
+    let mut lanes = Lanes::new();
     let values = *b"\x00\x01\x02\x03\x04\x05\x06\x07\x08\x09\x0a\x0b\x0c\x0d\x0e\x0f";
-    tries(
-        &mut seen,
-        Call::Saturate,
-        Either,
-        b"0123456789abcdef",
-        &values,
-    );
+    lanes.tries_all(Call::Saturate, Either, b"0123456789abcdef", &values);
     for (case, nibbles) in [
         (Either, *b"\xd8\x00\x09\x10\x0a\x0f\x10"),
         (Lower, *b"\xd8\x00\x09\x10\x11\x0f\x10"),
@@ -246,24 +234,17 @@ fn saturating_nibbles(rt: HostRuntime) {
         for i in 0..7 {
             want[i] = nibbles[i];
             if i != 1 {
-                in_each_lane(
-                    &mut seen,
-                    Call::Saturate,
-                    case,
-                    16,
-                    (b'0', 0),
-                    (bytes[i], nibbles[i]),
-                );
+                lanes.in_each_lane(Call::Saturate, case, 16, (b'0', 0), (bytes[i], nibbles[i]));
             }
         }
-        tries(&mut seen, Call::Saturate, case, &bytes, &want);
+        lanes.tries_all(Call::Saturate, case, &bytes, &want);
     }
-    ends(&rt, seen.ended(292));
+    ends(&rt, lanes.seen.ended(292));
 }
 
 #[test]
 fn checks_of_hashed_bytes(rt: HostRuntime) {
-    let mut seen = Seen::new();
+    let mut lanes = Lanes::new();
     for (case, checks) in [
         (Either, *b"\xff\x00\x00\x00\x05\x00\x02\x00"),
         (Lower, *b"\xc0\x00\xc1\x00\x05\x00\x02\x00"),
@@ -274,32 +255,19 @@ fn checks_of_hashed_bytes(rt: HostRuntime) {
             for i in 0..8 {
                 (bytes[i], want[i]) = (b"@0A0f090"[i], checks[i]);
                 if i % 2 == 0 {
-                    in_each_lane(
-                        &mut seen,
-                        Call::Hash,
-                        case,
-                        width,
-                        (b'0', 0),
-                        (bytes[i], checks[i]),
-                    );
+                    lanes.in_each_lane(Call::Hash, case, width, (b'0', 0), (bytes[i], checks[i]));
                 }
             }
-            tries(
-                &mut seen,
-                Call::Hash,
-                case,
-                first(&bytes, width),
-                first(&want, width),
-            );
+            lanes.tries(Call::Hash, case, width, &bytes, &want);
         }
     }
-    ends(&rt, seen.ended(1_158));
+    ends(&rt, lanes.seen.ended(1_158));
 }
 
 // Each byte that is no digit is refused between digits, and the byte 0xff in each lane.
 #[test]
 fn nibbles_of_hashed_bytes(rt: HostRuntime) {
-    let mut seen = Seen::new();
+    let mut lanes = Lanes::new();
     let values =
         b"\x00\x01\x02\x03\x04\x05\x06\x07\x08\x09\x0a\x0b\x0c\x0d\x0e\x0f\x0a\x0b\x0c\x0d\x0e\x0f";
     for width in [32, 64] {
@@ -307,41 +275,22 @@ fn nibbles_of_hashed_bytes(rt: HostRuntime) {
             let digits = alphabet(case);
             let want = repeated::<64>(first(values, digits.len()));
             let bytes = repeated::<64>(digits);
-            tries(
-                &mut seen,
-                Call::Nibbles,
-                case,
-                first(&bytes, width),
-                first(&want, width),
-            );
+            lanes.tries(Call::Nibbles, case, width, &bytes, &want);
         }
-        in_each_lane(
-            &mut seen,
-            Call::Nibbles,
-            Either,
-            width,
-            (b'7', 7),
-            (0xff, REFUSED),
-        );
+        lanes.in_each_lane(Call::Nibbles, Either, width, (b'7', 7), (0xff, REFUSED));
         for byte in 0..=255 {
             if value(byte, Either).is_none() {
                 let (bytes, want) = (with([b'7'; 64], 5, byte), with([7; 64], 5, REFUSED));
-                tries(
-                    &mut seen,
-                    Call::Nibbles,
-                    Either,
-                    first(&bytes, width),
-                    first(&want, width),
-                );
+                lanes.tries(Call::Nibbles, Either, width, &bytes, &want);
             }
         }
     }
-    ends(&rt, seen.ended(570));
+    ends(&rt, lanes.seen.ended(570));
 }
 
 #[test]
 fn blocks_are_packed_and_written(rt: HostRuntime) {
-    let mut seen = Seen::new();
+    let mut lanes = Lanes::new();
     let values = b"\x00\x01\x02\x03\x04\x05\x06\x07\x08\x09\x0a\x0b\x0c\x0d\x0e\x0f\
         \x0f\x0e\x0d\x0c\x0b\x0a\x09\x08\x07\x06\x05\x04\x03\x02\x01\x00\
         \x00\x0f\x01\x0e\x02\x0d\x03\x0c\x04\x0b\x05\x0a\x06\x09\x07\x08\
@@ -353,16 +302,11 @@ fn blocks_are_packed_and_written(rt: HostRuntime) {
     for (from, to) in [(0, 8), (8, 24), (0, 32)] {
         let nibbles = values.get(2 * from..2 * to).unwrap_or_default();
         let block = bytes.get(from..to).unwrap_or_default();
-        tries(&mut seen, Call::Pack, Either, nibbles, block);
+        lanes.tries_all(Call::Pack, Either, nibbles, block);
         for (case, text) in [(Lower, lower), (Upper, upper)] {
-            tries(
-                &mut seen,
-                Call::Write,
-                case,
-                block,
-                text.get(2 * from..2 * to).unwrap_or_default(),
-            );
+            let want = text.get(2 * from..2 * to).unwrap_or_default();
+            lanes.tries_all(Call::Write, case, block, want);
         }
     }
-    ends(&rt, seen.ended(9));
+    ends(&rt, lanes.seen.ended(9));
 }

@@ -48,91 +48,75 @@ fn the_plans_are_listed_in_their_order(rt: HostRuntime) {
     assert_eq!(rt; backends().len(), 5);
 }
 
-// Tries the search by each plan: the place that it finds, how many blocks it tests, and how many bytes it looks at.
-fn finds(
-    seen: &mut Seen,
-    case: CheckCase,
-    src: &[u8],
-    place: Option<usize>,
-    tests: usize,
-    looks: usize,
-) {
-    seen.tries();
-    for plan in plans() {
-        let given = Given::new(case, 0, src).by(plan.name());
-        let mut probe = SliceProbe::new(plan, src, case);
-        seen.finds(given, "locate", locate(&mut probe), place);
-        seen.is(given, "tests of locate", probe.tests(), tests);
-        seen.is(given, "looks of locate", probe.looks(), looks);
-        seen.finds(given, "first_invalid", plan.first_invalid(src, case), place);
+// The searches of a test.
+#[derive(Drop)]
+struct Searches {
+    seen: Seen,
+}
+
+impl Searches {
+    fn new() -> Searches {
+        Searches { seen: Seen::new() }
+    }
+
+    // Tries the search by each plan: the place that it finds, and then how many blocks it tests and how many bytes it
+    // looks at.
+    fn finds(&mut self, case: CheckCase, src: &[u8], place: Option<usize>, steps: (usize, usize)) {
+        self.seen.tries();
+        let (tests, looks) = steps;
+        for plan in plans() {
+            let given = Given::new(case, 0, src).by(plan.name());
+            let mut probe = SliceProbe::new(plan, src, case);
+            self.seen.finds(given, "locate", locate(&mut probe), place);
+            self.seen.is(given, "tests of locate", probe.tests(), tests);
+            self.seen.is(given, "looks of locate", probe.looks(), looks);
+            let found = plan.first_invalid(src, case);
+            self.seen.finds(given, "first_invalid", found, place);
+        }
+    }
+
+    // Tries whether each plan covers a source by `tests` tests of blocks, without looking at a byte.
+    fn covers(&mut self, src: &[u8], tests: usize) {
+        self.seen.tries();
+        let place = first_invalid(src, Either);
+        for plan in plans() {
+            let given = Given::new(Either, 0, src).by(plan.name());
+            let mut probe = SliceProbe::new(plan, src, Either);
+            let is_covered = src.len() >= 64 && covered(&mut probe);
+            self.seen.is(given, "covered", is_covered, place.is_none());
+            let found = plan.first_invalid(src, Either);
+            self.seen.finds(given, "first_invalid", found, place);
+            self.seen
+                .is(given, "tests of covered", probe.tests(), tests);
+            self.seen.is(given, "looks of covered", probe.looks(), 0);
+        }
     }
 }
 
 #[test]
 fn the_search_takes_few_steps(rt: HostRuntime) {
-    let mut seen = Seen::new();
+    let mut searches = Searches::new();
     let zeros = [b'0'; 8_192];
     for case in POLICIES {
-        finds(&mut seen, case, &[], None, 0, 0);
-        finds(
-            &mut seen,
-            case,
-            first(&with(zeros, 0, b'!'), 64),
-            Some(0),
-            0,
-            1,
-        );
-        finds(
-            &mut seen,
-            case,
-            first(&with(zeros, 63, b'!'), 64),
-            Some(63),
-            0,
-            64,
-        );
-        finds(&mut seen, case, first(&zeros, 65), None, 1, 1);
-        finds(
-            &mut seen,
-            case,
-            first(&with(zeros, 64, b'!'), 65),
-            Some(64),
-            1,
-            1,
-        );
-        finds(&mut seen, case, first(&zeros, 128), None, 2, 0);
-        finds(
-            &mut seen,
-            case,
-            first(&with(zeros, 63, b'!'), 128),
-            Some(63),
-            1,
-            64,
-        );
-        finds(
-            &mut seen,
-            case,
-            first(&with(zeros, 129, b'!'), 130),
-            Some(129),
-            2,
-            2,
-        );
-        finds(
-            &mut seen,
-            case,
-            &with(with(zeros, 65, b'!'), 8_191, 0xff),
-            Some(65),
-            2,
-            2,
-        );
+        searches.finds(case, &[], None, (0, 0));
+        searches.finds(case, first(&with(zeros, 0, b'!'), 64), Some(0), (0, 1));
+        searches.finds(case, first(&with(zeros, 63, b'!'), 64), Some(63), (0, 64));
+        searches.finds(case, first(&zeros, 65), None, (1, 1));
+        searches.finds(case, first(&with(zeros, 64, b'!'), 65), Some(64), (1, 1));
+        searches.finds(case, first(&zeros, 128), None, (2, 0));
+        searches.finds(case, first(&with(zeros, 63, b'!'), 128), Some(63), (1, 64));
+        searches.finds(case, first(&with(zeros, 129, b'!'), 130), Some(129), (2, 2));
+        let two = with(with(zeros, 65, b'!'), 8_191, 0xff);
+        searches.finds(case, &two, Some(65), (2, 2));
     }
-    ends(&rt, seen.ended(27));
+    ends(&rt, searches.seen.ended(27));
 }
 
 // In a source of at most 64 bytes the search looks at each byte up to the invalid one. In a longer one it tests blocks
 // of 64 bytes, and looks at the bytes of the first block that fails, or behind all blocks.
 #[test]
 fn the_search_tests_blocks(rt: HostRuntime) {
-    let mut seen = Seen::new();
+    let mut searches = Searches::new();
     let (zeros, mut src) = ([b'0'; 256], [0; 321]);
     for case in POLICIES {
         for len in 0..256 {
@@ -141,50 +125,30 @@ fn the_search_tests_blocks(rt: HostRuntime) {
             } else {
                 (len / 64, len % 64)
             };
-            finds(&mut seen, case, first(&zeros, len), None, tests, looks);
+            searches.finds(case, first(&zeros, len), None, (tests, looks));
             let is_short = len < 64;
             let behind = first(&zeros, if is_short { 0 } else { 64 });
             let refused = joined(&[first(&zeros, len), b"g", behind], &mut src);
             let tests = if is_short { 0 } else { len / 64 + 1 };
-            finds(&mut seen, case, refused, Some(len), tests, len % 64 + 1);
+            searches.finds(case, refused, Some(len), (tests, len % 64 + 1));
         }
     }
-    ends(&rt, seen.ended(1_536));
-}
-
-// Tries whether each plan covers a source by `tests` tests of blocks, without looking at a byte.
-fn covers(seen: &mut Seen, src: &[u8], tests: usize) {
-    seen.tries();
-    let place = first_invalid(src, Either);
-    for plan in plans() {
-        let given = Given::new(Either, 0, src).by(plan.name());
-        let mut probe = SliceProbe::new(plan, src, Either);
-        let is_covered = src.len() >= 64 && covered(&mut probe);
-        seen.is(given, "covered", is_covered, place.is_none());
-        seen.finds(
-            given,
-            "first_invalid",
-            plan.first_invalid(src, Either),
-            place,
-        );
-        seen.is(given, "tests of covered", probe.tests(), tests);
-        seen.is(given, "looks of covered", probe.looks(), 0);
-    }
+    ends(&rt, searches.seen.ended(1_536));
 }
 
 #[test]
 fn a_source_is_covered_by_blocks(rt: HostRuntime) {
-    let mut seen = Seen::new();
+    let mut searches = Searches::new();
     let zeros = [b'0'; 256];
     for (len, tests) in [(64, 1), (65, 2), (130, 3)] {
-        covers(&mut seen, first(&zeros, len), tests);
+        searches.covers(first(&zeros, len), tests);
     }
     for (before, len, tests) in [(0, 130, 1), (64, 130, 2), (129, 130, 3)] {
-        covers(&mut seen, first(&with(zeros, before, b'!'), len), tests);
+        searches.covers(first(&with(zeros, before, b'!'), len), tests);
     }
     for more in 0..64 {
-        covers(&mut seen, first(&zeros, 65 + more), 2);
-        covers(&mut seen, first(&with(zeros, more, b'!'), more + 130), 1);
+        searches.covers(first(&zeros, 65 + more), 2);
+        searches.covers(first(&with(zeros, more, b'!'), more + 130), 1);
     }
-    ends(&rt, seen.ended(134));
+    ends(&rt, searches.seen.ended(134));
 }
