@@ -168,12 +168,12 @@ macro_rules! modules {
             ///
             /// # Errors
             ///
-            /// [`Error::Overflow`](crate::Error::Overflow) as an error of the serializer, and the
-            /// serializer's own errors.
+            /// [`Error::Overflow`](crate::Error::Overflow), as an error of the serializer, if the length of
+            /// the text exceeds `usize`, and the serializer's own errors.
             ///
             /// # Panics
             ///
-            /// If the text would be longer than `isize::MAX` bytes.
+            /// If that length fits `usize`, but exceeds `isize::MAX`.
             pub fn serialize<S, T>(data: T, serializer: S) -> Result<S::Ok, S::Error>
             where
                 S: Serializer,
@@ -203,11 +203,24 @@ macro_rules! modules {
 
             /// Like [`deserialize`], but for at most `MAX` bytes.
             ///
+            /// ```
+            /// #[derive(serde::Deserialize)]
+            /// struct Record {
+            ///     #[serde(deserialize_with =
+            #[doc = concat!("        \"faster_hex::", stringify!($name), "::deserialize_bounded::<1, _, _>\")]")]
+            ///     bytes: Vec<u8>,
+            /// }
+            ///
+            #[doc = concat!("let read = serde_json::from_str::<Record>(r#\"{\"bytes\":\"", $shown, "\"}\"#);")]
+            /// let error = read.map(|it| it.bytes).unwrap_err().to_string();
+            /// assert!(error.starts_with("expected at most 1 decoded bytes, got 2"));
+            /// ```
+            ///
             /// # Errors
             ///
-            /// Those of [`deserialize`], in its order, and one more before the last of them, which is
-            /// about an invalid digit. If the string has digits for more than `MAX` bytes, it fails and
-            /// decodes no byte.
+            /// Those of [`deserialize`], in its order. Before the last of them, which is about an invalid
+            /// digit, comes `expected at most MAX decoded bytes, got N`, if `2 * N` bytes follow the prefix
+            /// and `N` is more than `MAX`. In that case no byte was decoded.
             pub fn deserialize_bounded<'de, const MAX: usize, D, T>(
                 deserializer: D,
             ) -> Result<T, D::Error>
@@ -269,7 +282,7 @@ macro_rules! modules {
             ///
             /// # Panics
             ///
-            /// If the text would be longer than `isize::MAX` bytes.
+            /// As `serialize` of the module without `option_` does.
             pub fn serialize<S, T>(data: &Option<T>, serializer: S) -> Result<S::Ok, S::Error>
             where
                 S: Serializer,

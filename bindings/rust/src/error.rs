@@ -37,9 +37,9 @@ pub enum Error {
         /// Half the length of the source.
         actual: usize,
     },
-    /// The source has an odd number of bytes, or of digits where white space is skipped.
+    /// The source has an odd number of bytes. White space that is skipped does not count.
     OddLength,
-    /// The length of the output exceeds `usize`.
+    /// The length of the output exceeds `usize`. No slice has so many digits.
     Overflow,
 }
 

@@ -78,7 +78,7 @@ impl<'a> Hex<'a> {
         };
         let fill = f.fill();
         write_copies(f, fill, before)?;
-        // An empty text would take a call of the sink too.
+        // Without this test, an empty text would cost a call of the writer.
         if !front.is_empty() {
             f.write_str(front)?;
         }

@@ -1,5 +1,5 @@
-//! Turns bytes into hex digits and back, by the calls of the Rust crate `faster-hex` 1.0.0, with its names and
-//! signatures.
+//! Turns bytes into hex digits and back, with the names and signatures of the crate `faster-hex` 1.0.0 by other
+//! authors, which this page calls *the original*.
 //!
 //! The code that tests, encodes and decodes is assembly, which was compiled from sources that are proved for every
 //! input. The Rust code around it is tested, and not proved. [Some targets](#platforms) have no assembly.
@@ -30,10 +30,12 @@
 //! | digits at the end of a string that you have (`alloc`) | `hex_append`, `hex_append_upper` |
 //! | bytes in a new vector (`alloc`) | `hex_decode_vec`, `hex_decode_vec_with_case` |
 //! | a field of a `serde` type (`serde`) | the modules below |
-//! | to know the build, before the first key | [`hex_build`] |
+//! | to know whether keys may be handled on this processor | [`hex_build`] |
 //!
 //! A call that reads digits accepts lowercase and uppercase letters, also mixed. A call whose name ends with
 //! `_with_case` has a parameter [`CheckCase`], which can permit only one case.
+//!
+//! The original does not have [`hex_decode_spaced`], [`hex_decode_spaced_with_case`] and [`hex_build`].
 //!
 //! # What the calls do
 //!
@@ -53,8 +55,8 @@
 //! error the whole buffer is unchanged.
 //!
 //! New strings and vectors are yours. Each takes one allocation, and none if it is empty.
-//! Appending keeps what the string has, grows it if needed, and returns the new part; to append often, reserve
-//! first. If memory runs out, the same happens as for a `Vec`. There is no [`Error`] for that.
+//! Appending keeps what the string has, grows it as `push_str` does, and returns the new part. If memory runs out,
+//! the same happens as for a `Vec`. There is no [`Error`] for that.
 //!
 //! # Features
 //!
@@ -83,9 +85,9 @@
 //! - `option_` before a name is for `Option`. `None` and an empty value are written differently. For a field that
 //!   may be missing add `default`: `#[serde(default, with = "faster_hex::option_nopfx_lowercase")]`.
 //! - `array` inside a module is for arrays: `#[serde(with = "faster_hex::nopfx_lowercase::array")]`.
-//! - A field of any other type is collected by `FromIterator<u8>`, as a `Vec<u8>` is. `deserialize_bounded` has
-//!   a bound `MAX`, and fails for a value of more than `MAX` bytes before it decodes any. It bounds the bytes, not
-//!   what the data format or your type allocates.
+//! - A field of any other type needs `AsRef<[u8]>` to be written, and is collected by `FromIterator<u8>`. For at most
+//!   32 bytes write `deserialize_with = "faster_hex::nopfx_lowercase::deserialize_bounded::<32, _, _>"`, which fails
+//!   before it decodes a longer value. It bounds the bytes, not what the data format or your type allocates.
 //!
 //! # Platforms
 //!
@@ -93,14 +95,13 @@
 //! GNU toolchain. On all other targets, also on bare metal and under Miri, the calls are plain Rust, which is tested
 //! and **not proved**.
 //!
-//! On x86-64 the first call asks the processor which of five builds it can run: x86-64, x86-64-v2, x86-64-v3 with
-//! AVX2, or x86-64-v4 and x86-64-vbmi, which check and decode with AVX-512 and AVX-512 VBMI. All builds return the
-//! same results. The first one looks bytes up in tables, so do not use it for keys. [`hex_build`] names the build, and
+//! A *build* is the code for one kind of processor. On x86-64 the first call asks the processor which of five builds it
+//! can run. All builds return the same results, but not all of them are for keys: [`hex_build`] names the build, and
 //! says what was examined. The crate needs Rust 1.81 or later. One program may contain several versions of this crate,
 //! and also the library for C.
 //!
-//! The README of the crate says how to use it in place of `faster-hex`, and what `faster-hex` has that this
-//! crate lacks.
+//! The README of the crate says how to use it in place of the original, and what the original has that this crate
+//! lacks.
 #![no_std]
 #![warn(missing_docs)]
 
@@ -157,17 +158,20 @@ pub use crate::encode::{hex_append, hex_append_upper, hex_string, hex_string_upp
 pub use crate::encode::{hex_encode, hex_encode_upper};
 pub use crate::error::Error;
 
-/// Names the build that the calls use on this processor, so that a program can refuse to handle keys where the
-/// crate is not constant time. You need not make another call first.
+/// Names the build that the calls use on this processor, so that a program can refuse to handle keys where nobody has
+/// examined whether the crate is constant time. You need not make another call first.
 ///
-/// The name is `x86-64`, `x86-64-v2`, `x86-64-v3`, `x86-64-v4`, `x86-64-vbmi` (which is `x86-64-v4` with AVX-512
-/// VBMI), `aarch64`, or `portable` (which is plain Rust). Later versions may have other builds. Calls that the
-/// builds for AVX-512 do not have use `x86-64-v3`. `x86-64` looks bytes up in tables.
+/// The name is `x86-64`, `x86-64-v2`, `x86-64-v3` (AVX2), `x86-64-v4` (AVX-512), `x86-64-vbmi` (AVX-512 with VBMI),
+/// `aarch64`, or `portable` (which is plain Rust). Later versions may have other builds, so read this page again before
+/// you update. Encoding, which the builds for AVX-512 do not have, uses `x86-64-v3`. `x86-64` looks bytes up in tables,
+/// so do not handle keys there.
 ///
 /// The calls for keys are `hex_encode`, `hex_string`, `hex_decode`, `hex_decode_vec`, `hex_decode_array`, `hex_check`,
 /// and their variants whose names end with `_with_case` or `_upper`. On Linux, the assembly that they run was examined
-/// in `aarch64` and in the builds whose names begin with `x86-64-v`: valid digits of one length take the same branches
-/// and use the same addresses. The Rust code around the assembly was tested for four of these calls, on x86-64.
+/// in `aarch64` and in the builds whose names begin with `x86-64-v`: encoding takes the same branches and uses the same
+/// addresses for all bytes of one length, and so do checking and decoding for all valid digits of one length. The Rust
+/// code around the assembly was tested only for `hex_string`, `hex_decode_vec`, `hex_check_with_case` and
+/// `hex_decode_array`, on x86-64. If a digit is invalid, the time or the cache may show where and which it is.
 ///
 /// ```
 /// let build = faster_hex::hex_build();
