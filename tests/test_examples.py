@@ -144,7 +144,7 @@ def snippets():
     """The first snippets of README.md by their languages: each call, and what its comment says of the key."""
     head = (TOP / "README.md").read_text().partition("\n## ")[0]
     found = re.findall(r"^```(c|rust)\n.*\n((?:\S.*\n)+)```$", head, re.M)
-    return {kind: re.findall(r"^(?:it = )?(.*?)\??; +/[/*] (.*?)(?: \*/)?$", lines, re.M) for kind, lines in found}
+    return {kind: re.findall(r"^(?:answer = )?(.*?)\??; +/[/*] (.*?)(?: \*/)?$", lines, re.M) for kind, lines in found}
 
 
 def test_snippet_in_c(tmp_path, library):
@@ -154,8 +154,7 @@ def test_snippet_in_c(tmp_path, library):
         #include <stdio.h>
         static unsigned char key[2];
         static void told(struct faster_hex_answer it) {{
-            printf("status %d", it.status);
-            if (it.status) printf(", index %zu", it.number);
+            printf(it.status == FASTER_HEX_DONE ? "FASTER_HEX_DONE" : "FASTER_HEX_INVALID_CHAR, index %zu", it.number);
             printf(": key is%s %02x %02x\\n", it.status ? " still" : "", key[0], key[1]);
         }}
         int main(void) {{

@@ -183,8 +183,7 @@ def test_readme(tmp_path, top):
                 (own / FILES[kind]).write_text(block)
             for line in block.splitlines() if kind == "sh" else ():
                 words, _, told = (it.strip() for it in line.partition("  # "))
-                place = top if words.startswith("make") or "out/" in words else own
-                done = ran(["bash", "-c", exports + words], cwd=place)
+                done = ran(["bash", "-c", exports + words], cwd=own)
                 assert done.stdout.strip().splitlines()[-1:] == [told] if told else done.returncode == 0, done.stdout
 
 
