@@ -46,8 +46,8 @@ struct task {
     DECODING(build) \
     CALL(ENCODE, build##_encode, OF(build, encode)(src, len, dst, room, false).number) \
     GROUPED(build, 1) GROUPED(build, 16)
-// Other calls, which all have the same type: those of the Rust crate, to a kernel or to a public function, and those of
-// a plan in a build.
+// Other calls, which all have the same type: those of the crate `faster-hex`, to a kernel or to a public function, and
+// those of a plan in a build.
 typedef size_t other(const uint8_t *src, size_t len, uint8_t *dst, size_t room);
 #define DONE_BY(name) ({ other name; name(src, len, dst, room); })
 #define OTHER_DECODING(side, name) \
@@ -64,7 +64,7 @@ typedef size_t other(const uint8_t *src, size_t len, uint8_t *dst, size_t room);
 #define LOOPS(n) \
     CALL(WRITE, loop_write_##n, write_by_##n(src, len, dst)) \
     CALL(READ, loop_read_##n, read_by_##n(src, len, dst))
-// The builds for AVX-512 have only these calls, and the Rust crate has code for AVX-512 only for these.
+// The builds for AVX-512 have only these calls, and `faster-hex` has code for AVX-512 only for these.
 #ifdef WIDEST
 #ifdef VBMI
 #define EACH_VBMI DECODING(vbmi)

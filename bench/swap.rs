@@ -1,4 +1,4 @@
-//! Times the public calls of `bindings/rust`, which is the crate `ours` here, and those of the Rust crate, which is
+//! Times the public calls of our Rust crate, which is the crate `ours` here, and those of `faster-hex`, which is
 //! `theirs`. The calls are made as in a program that replaces one crate by the other and that cargo builds for a
 //! release. Each result is unwrapped, because the copy out of a `Result` may take longer than the call itself. The
 //! program's argument names the widest vectors that both crates are built for. It prints a line for each crate, call

@@ -14,8 +14,8 @@ import repository
 
 TOP = repository.TOP
 # The builds of the library: the name, the architecture, the processor that it is proved for, and the number that
-# `level` of faster_hex_c returns there. By this number all calls of the library choose their plan. `rattle` knows no
-# processor with AVX-512, so scripts/library.awk tells clang alone of one.
+# `level` of faster_hex_c returns there. By this number all calls of the library choose their plan. `rattle`, the
+# toolchain's prover and compiler, knows no processor with AVX-512, so scripts/library.awk tells clang alone of one.
 BUILDS = [
     ("x86-64", "x86_64", "x86-64", 1),
     ("x86-64-v2", "x86_64", "x86-64-v2", 2),

@@ -45,7 +45,7 @@ while read -r pattern folder; do
         [ "$pattern" = '#' ] || place "$PREFIX/$folder/${file##*/}" install -m 644 "$file"
     done
 done <bindings/installed.txt
-# also those of earlier versions
+# Libraries of earlier versions are removed too.
 rm -f "${DESTDIR-}$LIBDIR"/libfaster_hex.so.1.* "${DESTDIR-}$LIBDIR"/libfaster_hex.so.1 \
     "${DESTDIR-}$LIBDIR"/libfaster_hex.so
 place "$LIBDIR/libfaster_hex.a" install -m 644 "$OUT/libfaster_hex.a"

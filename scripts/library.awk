@@ -2,8 +2,8 @@
 # Usage: awk -v level=LEVEL -f library.awk, where LEVEL is the number that `level` of faster_hex_c returns in this
 # build.
 
-# `level` has a contract here, but no body. Its number replaces the one call, so that no code reaches the plans for
-# other numbers.
+# The callers of `level` are proved for every number that it could return. The number of this build replaces the one
+# call, so that no code reaches the plans for other numbers.
 { edits += gsub(/call i8 @"faster_hex_c::level"\(\)/, "add i8 0, " level) }
 
 # Levels 4 and 5 were proved for the processor of level 3, because `rattle` knows no processor with AVX-512. From here
@@ -25,8 +25,9 @@ level == 5 && /^define .*@"hex_core::widths::look_up_row_of_64"\(/ {
     look_ups++
     is_replaced = 1
 }
-# At level 5, the functions that look up long rows, and two functions with all short paths, are inlined, as those of the
-# other builds are. They have no `inline` in the source, because `Backend::check` would then be too long to be inlined.
+# At level 5, `look_up_long` (in three instances), `check_by_long_rows` and `decode_by_long_rows` are inlined, as
+# `look_up`, `check_by_length` and `decode_by_length` are in the other builds. They have no `inline` in the source,
+# because `Backend::check` would then be too long to be inlined.
 level == 5 && /^define internal .*@"hex_core::(plain::(check|decode)_by_long_rows|widths::look_up_long.*)"\(/ {
     hints += sub(/ #[0-9]+ \{$/, " alwaysinline&")
 }

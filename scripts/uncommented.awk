@@ -43,7 +43,7 @@ FNR == 1 {
     held = ""
     print "\t" $0
     # In a line without these, each quotation mark begins or ends a text, each brace counts, and no comment goes on
-    # behind the line.
+    # behind the line. After a line with one of them, no further comment of the file is left out.
     if (/'"'|\\"/ || code ~ /\/\/|\/[*]|r`|r#|--|[{]-/) is_unclear = 1
     in_text = (in_text + gsub(/"/, "")) % 2
     # What stands in the braces of a clause is antt, in which `//` may be a name.

@@ -41,7 +41,7 @@ INSTALLED = """bin/fhex bin/fhex-stream share/man/man1/fhex.1 share/man/man1/fhe
 INSTALLED += [f"lib/{name}" for name in SHARED] + [f"share/man/man3/{name}.3" for name in NAMES]
 COPIED = re.findall("^([^# ]+) (.+)", (TOP / "bindings/installed.txt").read_text(), re.M)
 INSTALLED += [f"{folder}/{it.name}" for pattern, folder in COPIED for it in TOP.glob(pattern)]
-# The seed of random lengths. It is new in each run, unless SEED is given. All processes of a run find it in their
+# The seed of random inputs. It is new in each run, unless SEED is given. All processes of a run find it in their
 # environment.
 SEED = os.environ.get("SEED") or os.environ.setdefault("DRAWN_SEED", f"{random.SystemRandom().randrange(10 ** 9)}")
 STRICT = ["-Wall", "-Wextra", "-Wpedantic", "-Wconversion", "-Werror", f"-I{CRATE}"]

@@ -1,4 +1,4 @@
-"""Packages of the Rust crate, and the crates that cargo takes from a folder in place of a registry."""
+"""Packages of our Rust crate, and the crates that cargo takes from a folder in place of a registry."""
 import functools
 import os
 import re

@@ -1,4 +1,4 @@
-"""The examples of the Rust crate, for each feature and target, and programs that cargo builds with it."""
+"""The examples of our Rust crate, for each feature and target, and programs that cargo builds with it."""
 import os
 import re
 from pathlib import Path

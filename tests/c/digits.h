@@ -1,4 +1,4 @@
-/* The value of a digit, as the tests in C define it. */
+/* What the tests in C share. */
 #include "faster_hex.h"
 
 /* The value of a digit under a policy, or -1. */

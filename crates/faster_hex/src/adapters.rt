@@ -34,11 +34,11 @@ pub enum AdapterError {
     InvalidPrefix,
     /// An odd number of bytes follows the prefix.
     InvalidLength,
-    /// There are more digits than a bounded read accepts.
+    /// More than `2 * max` bytes follow the prefix.
     OverBound {
         /// The maximum number of bytes of the read.
         max: usize,
-        /// The number of bytes that the digits would decode to.
+        /// Half the number of these bytes.
         actual: usize,
     },
     /// A digit is invalid, an allocation failed, or a length is wrong. An index counts from the
@@ -73,7 +73,8 @@ impl From<Error> for AdapterError {
 }
 
 /// A format of bytes as a JSON string. Each of the six modules has one, which accepts what it writes.
-/// One of your own does so if `case` is `None`, or if it is the letter case that `upper` selects.
+/// A format of your own accepts what it writes if `case` is `None`, or the letter case that `upper`
+/// selects.
 ///
 /// ```rust
 /// let format = WireFormat {

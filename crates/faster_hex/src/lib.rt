@@ -1,4 +1,15 @@
 //! Hexadecimal encoding and decoding of bytes, as a port of the Rust crate `faster-hex` 1.0.0.
+//! [CALLING.md](../CALLING.md) lists the calls: for buffers, arrays, vectors and strings, and for
+//! groups, white space, streams, digest lists and JSON.
+//!
+//! ```rust
+//! let mut buffer = [0; 2];
+//! hex_decode(b"aB01", &mut buffer)?;
+//! assert_eq!(rt; buffer, [0xab, 1]);
+//! assert_eq!(rt; hex_string(rt.alloc(), &buffer)?.as_str(), "ab01");
+//! ```
+//!
+//! # JSON
 //!
 //! The modules of this table read and write bytes as the string of a JSON value. For each of them
 //! there is a module for `Option`, whose name begins with `option_`. All of them accept what they
@@ -21,6 +32,17 @@
 //! let bounded = faster_hex::deserialize_bounded::<2>(rt.alloc(), &value)?;
 //! assert_eq!(rt; bounded.as_slice(), bytes.as_slice());
 //! ```
+//!
+//! These are their errors, in the order in which they are tested. The modules whose names have
+//! `nopfx_` do not have `InvalidPrefix`. Those for `Option` have the same errors, but reading `null`
+//! and writing `None` never fail.
+//!
+//! | Call | Errors, of [`AdapterError`] |
+//! |---|---|
+//! | `serialize` | `Codec(Overflow)`, `Codec(OutOfMemory)` |
+//! | `deserialize` | `NotText`, `InvalidPrefix`, `InvalidLength`, `Codec(OutOfMemory)`, `Codec(InvalidChar)` |
+//! | `deserialize_bounded` | the same, and `OverBound` after `InvalidLength` |
+//! | `array::deserialize` | `NotText`, `InvalidPrefix`, `InvalidLength`, `Codec(LengthMismatch)`, `Codec(InvalidChar)` |
 #![tactic(auto)]
 
 pub mod adapters;

@@ -1,14 +1,5 @@
 //! Six modules, each of which reads and writes bytes as JSON strings in one format. The example of
-//! [`nopfx_lowercase`] calls all functions of a module. This table has their errors, in the order
-//! in which they are tested. Only the modules whose names begin with `withpfx_` have
-//! `InvalidPrefix`.
-//!
-//! Call | Errors
-//! ---|---
-//! `serialize` | `Codec(Overflow)`, `Codec(OutOfMemory)`
-//! `deserialize` | `NotText`, `InvalidPrefix`, `InvalidLength`, `Codec(OutOfMemory)`, `Codec(InvalidChar)`
-//! `deserialize_bounded` | the same, and `OverBound` after `InvalidLength`
-//! `array::deserialize` | `NotText`, `InvalidPrefix`, `InvalidLength`, `Codec(LengthMismatch)`, `Codec(InvalidChar)`
+//! [`nopfx_lowercase`] calls all functions of a module. The root of the crate lists their errors.
 
 ghost use Rattle.std.specs.Prelude.{None, Some};
 ghost use Rattle.faster_hex.specs.Adapters.{AnswersArrayRead, AnswersRead, AnswersWrite, ArrayIsRead, IsReadBack, VecIsRead};

@@ -33,7 +33,8 @@ pub mod option_withpfx_ignorecase {
         read_option(alloc, WireFormat::WITHPFX_IGNORECASE, None, value)
     }
 
-    /// Does the same as [`deserialize`], but accepts at most `MAX` bytes.
+    /// Does the same as [`deserialize`], but accepts at most `MAX` bytes. For more the error is
+    /// `OverBound`.
     pub fn deserialize_bounded<const MAX: usize>(
         alloc: Global,
         value: &Value,
@@ -82,7 +83,8 @@ pub mod option_nopfx_ignorecase {
         read_option(alloc, WireFormat::NOPFX_IGNORECASE, None, value)
     }
 
-    /// Does the same as [`deserialize`], but accepts at most `MAX` bytes.
+    /// Does the same as [`deserialize`], but accepts at most `MAX` bytes. For more the error is
+    /// `OverBound`.
     pub fn deserialize_bounded<const MAX: usize>(
         alloc: Global,
         value: &Value,
@@ -131,7 +133,8 @@ pub mod option_withpfx_lowercase {
         read_option(alloc, WireFormat::WITHPFX_LOWERCASE, None, value)
     }
 
-    /// Does the same as [`deserialize`], but accepts at most `MAX` bytes.
+    /// Does the same as [`deserialize`], but accepts at most `MAX` bytes. For more the error is
+    /// `OverBound`.
     pub fn deserialize_bounded<const MAX: usize>(
         alloc: Global,
         value: &Value,
@@ -194,7 +197,8 @@ pub mod option_nopfx_lowercase {
         read_option(alloc, WireFormat::NOPFX_LOWERCASE, None, value)
     }
 
-    /// Does the same as [`deserialize`], but accepts at most `MAX` bytes.
+    /// Does the same as [`deserialize`], but accepts at most `MAX` bytes. For more the error is
+    /// `OverBound`.
     pub fn deserialize_bounded<const MAX: usize>(
         alloc: Global,
         value: &Value,
@@ -243,7 +247,8 @@ pub mod option_withpfx_uppercase {
         read_option(alloc, WireFormat::WITHPFX_UPPERCASE, None, value)
     }
 
-    /// Does the same as [`deserialize`], but accepts at most `MAX` bytes.
+    /// Does the same as [`deserialize`], but accepts at most `MAX` bytes. For more the error is
+    /// `OverBound`.
     pub fn deserialize_bounded<const MAX: usize>(
         alloc: Global,
         value: &Value,
@@ -291,7 +296,8 @@ pub mod option_nopfx_uppercase {
         read_option(alloc, WireFormat::NOPFX_UPPERCASE, None, value)
     }
 
-    /// Does the same as [`deserialize`], but accepts at most `MAX` bytes.
+    /// Does the same as [`deserialize`], but accepts at most `MAX` bytes. For more the error is
+    /// `OverBound`.
     pub fn deserialize_bounded<const MAX: usize>(
         alloc: Global,
         value: &Value,

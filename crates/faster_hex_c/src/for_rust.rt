@@ -1,4 +1,4 @@
-//! Functions that only our Rust crate links. Its `hex_check_with_case` calls another function for
+//! Functions that only our Rust crate links. Its `hex_check_with_case` calls a function of its own for
 //! each policy. If the policy were a parameter, the numbers that belong to it would be read from tables.
 
 ghost use Rattle.std.specs.Prelude.{◌≡◌, ◌↔◌, IsTrue, None};

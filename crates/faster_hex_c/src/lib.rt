@@ -1,6 +1,7 @@
 //! The functions that C and Rust link. They are thin wrappers around the functions of the library,
-//! and they have the same guarantees. `faster_hex.h` declares them and says what a caller must
-//! ensure about pointers, because nothing here can check a pointer.
+//! and they have the same guarantees. Each call of `faster_hex.h` that checks, searches or converts
+//! runs the function here that has its name. The header says what a caller must ensure about pointers,
+//! because nothing here can check a pointer.
 #![tactic(auto)]
 
 mod for_rust;
@@ -129,8 +130,8 @@ fn level() -> u8 {
     2
 }
 
-// Returns the plan that all functions use. Few programs run the build for processors without byte
-// shuffles, so it takes `scalar`, the plan with the least code.
+// Returns the plan that all functions use. Few programs run the baseline build, so that build takes
+// `scalar`, which has the least code. docs/DECISIONS.md has the other reasons.
 #[inline(always)]
 fn plan() -> Backend {
     let [scalar, ..] = backends();

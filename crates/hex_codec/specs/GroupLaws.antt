@@ -22,7 +22,7 @@ GroupingInvertsStrictReading = (group : Group) (upper : Bool) (s bytes : List �
     → GroupSpells (strict upper) group s bytes
     → grouped group upper bytes ≡ s
 
--- a text is accepted exactly if it spells some list, as a grouped text, that fits the room
+-- a text is accepted exactly if, as a grouped text, it spells a list that fits the room
 abbrev pub ReadsWhatGroupSpells : Type 0
 ReadsWhatGroupSpells = (c : CheckCase) (group : Group) (s : List ℕ) (room : ℕ)
     → (group_refusal c group s room ≡ None) ↔ ((bytes : List ℕ) × GroupSpells c group s bytes × (length bytes ≤ room))

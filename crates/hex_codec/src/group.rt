@@ -4,8 +4,9 @@ ghost use Rattle.hex_codec.specs.GroupRule.{IsGroup};
 
 use hex_core::{CheckCase, digit_value};
 
-/// A group says how digits are separated. A text is cut into pieces of `every` bytes, and the last
-/// piece may be shorter. There is one separator between two pieces.
+/// A group says how digits are separated. One part of the text is called a piece here, and a group in
+/// C. The bytes are cut into pieces of `every`, and the last piece
+/// may be shorter. The text has the digits of each piece, and one separator between two pieces.
 ///
 /// ```rust
 /// let group = Group::new(2, b':').ok_or("no group")?;
@@ -39,7 +40,7 @@ impl Group {
         Some(Group { every, sep })
     }
 
-    /// Returns the number of bytes in each piece except the last, which may be shorter.
+    /// Returns how many decoded bytes each piece has. The last piece may have fewer.
     ///
     /// ```rust
     /// let group = Group::new(4, b' ').ok_or("no group")?;

@@ -72,11 +72,13 @@ fn byte_count(len: usize, every: usize) -> Option<usize>
     requires { 0 < every }
     ensures { result ≡ byte_count every len }
 {
+    // A text of one piece comes first, so that `2 * every + 1` cannot exceed `usize`.
     if every > len / 2 {
         return if len % 2 == 0 { Some(len / 2) } else { None };
     }
     let part = 2 * every + 1;
     let last = len % part;
+    // If nothing is left after whole parts, the text would end with a separator.
     if last == 0 || last % 2 == 1 {
         return None;
     }
@@ -86,9 +88,9 @@ fn byte_count(len: usize, every: usize) -> Option<usize>
 /// Decodes all of a grouped text into the start of `dst`, if `case` accepts its digits. Returns the
 /// number of bytes written.
 ///
-/// The text has pieces of [`Group::every`] bytes, and the last piece may be shorter. There is one
-/// [`Group::sep`] between two pieces. So the text of `n` bytes has `2 * n` digits, and one
-/// separator fewer than pieces. The bytes of `dst` after the written ones are unchanged. If `src`
+/// The text has the digits of pieces of [`Group::every`] bytes, and the last piece may be shorter.
+/// There is one [`Group::sep`] between two pieces. So the text of `n` bytes has `2 * n` digits, and
+/// one separator fewer than pieces. The bytes of `dst` after the written ones are unchanged. If `src`
 /// is empty, the result is 0 and nothing changes.
 ///
 /// This function does the same as [`read`], but returns no borrow. Use it if a proof must say what
@@ -123,7 +125,8 @@ pub fn read_into(
     read_front(src, dst, group, case)
 }
 
-// Does the same as `read_into`, with only the clause of its contract that `read` needs.
+// Does the same as `read_into`, but has only the clause that `read` needs. The proof of `read` is
+// written by hand, and would have to carry every further clause.
 fn read_front(
     src: &[u8],
     dst: &mut [u8],
@@ -135,7 +138,7 @@ fn read_front(
     read_by(Backend::plain(), src, dst, group, case)
 }
 
-/// Does the same as [`read_into`] by the given plan. The plan changes only the speed.
+/// Does the same as [`read_into`] by the given plan, which is a [`Backend`]. The plan changes only the speed.
 ///
 /// ```rust
 /// let group = Group::new(2, b':').ok_or("no group")?;
@@ -236,7 +239,7 @@ pub fn write_into(src: &[u8], dst: &mut [u8], group: Group, upper: bool) -> Resu
     write_by(Backend::plain(), src, dst, group, upper)
 }
 
-/// Does the same as [`write_into`] by the given plan. The plan changes only the speed.
+/// Does the same as [`write_into`] by the given plan, which is a [`Backend`]. The plan changes only the speed.
 ///
 /// ```rust
 /// let group = Group::new(2, b':').ok_or("no group")?;

@@ -1,7 +1,7 @@
 //! Hex texts of a fixed capacity. They are stored in the value itself, so nothing is allocated.
 //!
-//! The module has the name of the module in the Rust crate. The type of the texts is that of the
-//! crate `arrayvec`.
+//! The module has the name of the module in the crate `faster-hex`. The type of the texts is that of
+//! the crate `arrayvec`.
 
 ghost use Rattle.hex_core.specs.Text.{lowercase, uppercase};
 ghost use Rattle.hex_codec.specs.Calls.{EncodesWithin};
@@ -53,7 +53,7 @@ pub fn hex_string_upper<const N: usize>(src: &[u8]) -> Result<ArrayString<N>, Er
     string_of(src, true)
 }
 
-// Returns the text of `src`.
+// Encodes `src` in one letter case.
 fn string_of<const N: usize>(src: &[u8], upper: bool) -> Result<ArrayString<N>, Error>
     ensures { EncodesWithin (λ string. string.bytes) upper src.now N result }
 {

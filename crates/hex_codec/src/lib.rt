@@ -1,5 +1,5 @@
 //! This crate encodes and decodes hex digits. It works on slices, arrays, vectors, strings and
-//! texts of a fixed capacity.
+//! texts of a fixed capacity. It also handles digits in groups, and decodes digits with white space.
 #![tactic(auto)]
 
 mod chunks;

@@ -15,7 +15,7 @@ use hex_core::{Backend, CheckCase};
 // For pieces of at least this many bytes, the call of a plan takes no longer than inlined look-ups.
 const CALL_FROM: usize = 8;
 
-// Returns the index of the first invalid digit of a piece.
+// Returns the index of the first invalid byte of a piece.
 #[inline(always)]
 fn first_invalid(plan: Backend, digits: &[u8], case: CheckCase) -> Option<usize>
     requires { length digits.now % 2 ≡ 0 }
@@ -51,7 +51,7 @@ fn read_long_piece(plan: Backend, digits: &[u8], bytes: &mut [u8], case: CheckCa
     plan.decode_into(digits, bytes, case).unwrap();
 }
 
-// Encodes a piece.
+// Encodes a piece, by inlined look-ups if it is short.
 #[inline(always)]
 fn write_piece(plan: Backend, bytes: &[u8], digits: &mut [u8], upper: bool)
     requires { length digits.old ≡ 2 * length bytes.now }

@@ -15,15 +15,15 @@ ghost use Rattle.hex_codec.specs.Spaced.{DecodesSpaced, first_invalid_spaced, is
 use hex_core::{Backend, CheckCase, Error, digit_value};
 use std::simd::prelude::*;
 
-// The number of bytes that are searched at once for the end of a run.
+// A run ends before the next byte that is at most a space, as all white space is. This number of bytes is searched
+// for it at once.
 const LANES: usize = 32;
 
-// A run is the bytes before the next one that is at most a space, but at most this number of bytes, so that a
-// long text without white space is not searched to its end.
+// The greatest length of a run, so that a long text without white space is not searched to its end.
 const LONGEST_RUN: usize = 192;
 
 // Lines of digits at the start of a source. Each has `len` digits, which is an even number, and then `gap`
-// bytes of white space.
+// bytes of white space. A text without white space is cut into lines of `LONGEST_RUN` digits with a `gap` of 0.
 #[derive(Clone, Copy)]
 struct Lines {
     len: usize,
@@ -37,7 +37,7 @@ struct Lines {
 ///
 /// White space is a space, tab, newline, form feed or carriage return. So this function reads what
 /// `xxd -p` and `openssl rand -hex` print. The bytes of `dst` after the written ones are unchanged.
-/// If `src` has no digits, the result is 0 and nothing changes.
+/// If `src` is empty or has only white space, the result is 0 and nothing changes.
 ///
 /// This function is not constant time: do not use it for keys.
 ///
@@ -63,7 +63,7 @@ pub fn hex_decode_spaced(src: &[u8], dst: &mut [u8], case: CheckCase) -> Result<
     decode_by(Backend::plain(), src, dst, case)
 }
 
-/// Does the same as [`hex_decode_spaced`] by the given plan. The plan changes only the speed.
+/// Does the same as [`hex_decode_spaced`] by the given plan, which is a [`Backend`]. The plan changes only the speed.
 ///
 /// ```rust
 /// let mut buffer = [0; 2];
@@ -241,9 +241,8 @@ fn invalid_error(src: &[u8], case: CheckCase) -> Error
     }
 }
 
-// Returns the number of bytes before the first byte that is at most a space, as all white space is, but
-// at most `LONGEST_RUN`. The first byte always counts. If it is itself at most a space, bytes after it may count
-// too, up to the next such byte.
+// Returns the length of the run at the start of a source. The first byte always counts. If it is itself at most a
+// space, bytes after it may count too, up to the next such byte. Such a run is no line, because its check fails.
 #[inline(never)]
 fn run_len(src: &[u8]) -> usize
     ensures some { 0 < length src.now → 0 < result }
@@ -292,7 +291,7 @@ fn decode_runs(plan: Backend, src: &[u8], dst: &mut [u8], head: Lines, case: Che
             at += lines.count * (lines.len + lines.gap);
             done += lines.count * (lines.len / 2);
         } else {
-            // White space is between the two digits.
+            // No line starts here, so white space follows this digit.
             let low = at + 1 + first_solid(&src[at + 1..]).unwrap();
             dst[done] = pair_byte(src[at], src[low], case);
             at = low + 1;
@@ -309,7 +308,8 @@ fn decode_lines(plan: Backend, src: &[u8], dst: &mut [u8], lines: Lines, case: C
     ensures { DecodesLines case src.now dst.old dst.new (lines.count * (lines.len + lines.gap))
         (lines.count * (lines.len / 2)) }
 {
-    // As in `line_count`, usual lengths have loops of their own.
+    // As in `line_count`, usual lengths have loops of their own. The ranges there are those of `check`, and these
+    // are those of `decode_valid`, so the first one differs by one.
     match lines.len {
         32..=64 => decode_lines_of(plan, src, dst, lines, case),
         65..=96 => decode_lines_of(plan, src, dst, lines, case),

@@ -16,7 +16,7 @@ use std::simd::prelude::*;
 // The number of bytes in a block.
 const BLOCK: usize = 64;
 
-// The number of blocks in one test. With more blocks in a test, an invalid byte is found later.
+// The number of blocks in the test of one turn. With more blocks, an invalid byte is found later.
 const RUN: usize = 8;
 
 /// Returns whether the one byte of `src` is valid under `case`.

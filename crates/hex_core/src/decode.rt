@@ -50,7 +50,7 @@ where
 }
 
 /// Packs the nibbles of `front` and then those of `back`, and writes the bytes to `dst` from index
-/// `at` on.
+/// `at` on. `case` serves only to read a factor from a table, as `FACTORS` says.
 #[inline(always)]
 pub fn pack_two_at(front: u8x64, back: u8x64, dst: &mut [u8], at: usize, case: CheckCase)
     requires front { AreSmall front }

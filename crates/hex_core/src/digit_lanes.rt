@@ -74,7 +74,7 @@ pub fn saturated<const N: usize>(v: Simd<u8, N>, case: CheckCase) -> Simd<u8, N>
     min(digits, saturating_add(letters(v, case), 10))
 }
 
-// A row is a table of 16 entries. `HASH_ROW` is indexed by the low four bits of a byte. The other
+// These rows have 16 entries. `HASH_ROW` is indexed by the low four bits of a byte. The other
 // rows are indexed by the low four bits of its hash, and have the numbers to subtract from the
 // byte.
 const HASH_ROW: [u8; 16] = [1, 1, 1, 1, 1, 1, 1, 11, 11, 11, 15, 15, 15, 15, 15, 15];

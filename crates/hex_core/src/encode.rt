@@ -29,7 +29,8 @@ pub trait Encode<const N: usize, const TWICE: usize> {
     fn encoded(v: Simd<u8, N>, upper: bool) -> Simd<u8, TWICE>
         ensures { result ≡ text upper v.entry };
 
-    /// Encodes the bytes in the lanes of `v`, and writes the digits to `dst` from index `at` on.
+    /// Encodes the bytes in the lanes of `v`, and writes the digits to `dst` from index `at` on. A way
+    /// of encoding may choose in which order it stores the halves.
     fn write(v: Simd<u8, N>, dst: &mut [u8], at: usize, upper: bool)
         requires { at + TWICE ≤ length dst.old }
         ensures { dst.new ≡ put_chunk at dst.old (text upper v.entry) };

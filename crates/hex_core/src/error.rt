@@ -7,9 +7,9 @@ use std::{error, fmt};
 
 /// An error of a function that encodes or decodes.
 ///
-/// If a function that writes to a slice fails, the whole slice is unchanged. If a function that
-/// appends to a string fails, the text of the string is unchanged. Each function documents which
-/// errors it returns, and in which order it tests for them.
+/// A function that writes to a slice and returns one of these errors has left the whole slice
+/// unchanged. If a function that appends to a string fails, the text of the string is unchanged. Each
+/// function documents which errors it returns, and in which order it tests for them.
 ///
 /// [`Display`](fmt::Display) prints exactly the texts of this table, with the values of the error's
 /// fields. It ignores width and fill.
@@ -50,7 +50,7 @@ pub enum Error {
         /// The number of bytes that the source would decode to.
         actual: usize,
     },
-    /// The source has an odd number of bytes, or of digits where white space is skipped.
+    /// The source has an odd number of bytes. White space that is skipped does not count.
     OddLength,
     /// The length of the whole output, or the number of bytes read, exceeds `usize`.
     Overflow,

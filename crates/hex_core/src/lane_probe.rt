@@ -1,4 +1,4 @@
-//! Checks by vectors. They use a probe that tests all bytes of a block at once.
+//! Checks by vectors, for the named plans. They use a probe that tests all bytes of a block at once.
 
 ghost use Rattle.std.specs.Prelude.{◌≡◌, ◌↔◌, ◌+◌, ◌<◌, IsTrue, None};
 ghost use Rattle.hex_core.specs.Search.{first_invalid};

@@ -111,8 +111,8 @@ fn check_two_outlined<M: Rows<64>>(src: &[u8], case: CheckCase) -> bool
     check_two::<M, 64>(src, case)
 }
 
-// `check_by_length` for more than 256 bytes. It is not inlined, because its loops are too long to be
-// copied into each caller.
+// `check_by_length` for more than 256 bytes, in a build without vectors of 64 bytes. It is not inlined,
+// because its loops are too long to be copied into each caller.
 #[inline(never)]
 fn check_long_outlined<M: Rows<64>>(src: &[u8], case: CheckCase) -> bool
     requires { 256 < length src.now }
@@ -199,8 +199,9 @@ fn decode_short(src: &[u8], dst: &mut [u8], case: CheckCase) -> bool
     }
 }
 
-// `decode_by_length` for more than `MOST_INLINE` digits. It is a function of its own, because
-// `decode_by_length` would not be inlined if it contained these implementations.
+// `decode_by_length` for more than `MOST_INLINE` digits, in a build without vectors of 64 bytes. It is
+// a function of its own, because `decode_by_length` would not be inlined if it contained these
+// implementations.
 #[inline(never)]
 fn decode_many_outlined<M: Rows<64> + Nibbles<64>>(
     src: &[u8],
@@ -211,6 +212,7 @@ fn decode_many_outlined<M: Rows<64> + Nibbles<64>>(
     requires more { MOST_INLINE < length src.now }
     ensures { DecodesWhole case src.now dst.old dst.new result }
 {
+    // `decode_many` only asks whether vectors have 64 bytes, so this value serves `Of16` too.
     decode_many::<M>(src, dst, case, Vectors::Of32)
 }
 

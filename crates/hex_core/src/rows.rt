@@ -44,7 +44,7 @@ pub trait Rows<const N: usize> {
 
 static MARK_MASKS: [u8; 3] = [0xa0, 0xa0, 0xa1];
 
-// A search found these rows. The proof computes the marks of all 256 bytes.
+// A program, which is not kept, found these rows. The proof computes the marks of all 256 bytes.
 static MARK_ROWS: [[u8; 16]; 3] = [
     *b"\xa7\xa8\xa9\x00\x00\x00\x00\x00\x00\x90\xa1\xa2\xa3\xa4\xa5\xa6",
     *b"\xa7\xa8\xa9\x00\x00\x00\x00\x00\x00\x90\x91\x92\x93\x94\x95\x96",
@@ -160,9 +160,9 @@ impl<const N: usize> Rows<N> for ShortRows {
         ensures { AreNibbles case v.entry result }
     {
         // Under one case, the difference has the bits in which a valid byte differs from its value. If
-        // both cases are accepted, `fold_of` flips the bit that makes a letter lowercase. The difference
-        // then has the other bits, and also this one for an uppercase letter, for which `past` is
-        // smaller by it.
+        // both cases are accepted, it has those that differ after `fold_of` has flipped the bit that
+        // makes a letter lowercase. For an uppercase letter, `past` is smaller by 32 than for the
+        // lowercase one, so the difference is greater by 32, which is the flipped bit.
         let past = saturating_sub(v, b'7');
         let bits = saturating_differences(look_up(nibble_row(case), past), past);
         xor(xor_splat(v, fold_of(case)), bits)

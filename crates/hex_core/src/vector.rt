@@ -28,7 +28,7 @@ pub fn saturating_sub<const N: usize>(v: Simd<u8, N>, by: u8) -> Simd<u8, N>
 }
 
 /// Adds `by` to each lane, but not above 255. The compiler makes one instruction of this form, but
-/// three of the saturating sum that a vector has.
+/// three of the method `saturating_add` of a vector.
 #[inline(always)]
 pub fn saturating_add<const N: usize>(v: Simd<u8, N>, by: u8) -> Simd<u8, N>
     ensures { result ≡ map (λ x. saturating_add x by) v.entry }
@@ -60,9 +60,9 @@ pub fn min<const N: usize>(a: Simd<u8, N>, b: Simd<u8, N>) -> Simd<u8, N>
     a.simd_min(b)
 }
 
-/// Returns the bits that either of the two lanes at each index has. All results are below 16, or
-/// have no bit of a mask, exactly if the same is true of the lanes of both vectors. So one test
-/// covers two vectors.
+/// Returns the bits that either of the two lanes at each index has. All results are below 16 exactly
+/// if the lanes of both vectors are. The same holds for having no bit of a mask. So one test covers
+/// two vectors.
 #[inline(always)]
 pub fn or<const N: usize>(a: Simd<u8, N>, b: Simd<u8, N>) -> Simd<u8, N>
     ensures lanes { result ≡ zip2 bit_or a.entry b.entry }

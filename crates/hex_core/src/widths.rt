@@ -274,8 +274,8 @@ fn look_up_64(row: u8x16, at: u8x64) -> u8x64
 }
 
 /// Looks up as [`Shuffle`] does, but in parts of 16 lanes. The instruction for a look-up
-/// ignores the bits that [`Shuffle`] clears by `and_splat`. The compiler notices this, and leaves
-/// the `and_splat` out, only if a vector takes one register in every build.
+/// ignores the bits that [`Shuffle`] clears by `and_splat`. The compiler notices this only for
+/// vectors that take one register in every build, and then leaves the `and_splat` out.
 ///
 /// LLVM decides whether to inline this function, and it does. If it were marked as inline,
 /// `Backend::check` would be too long for the toolchain to inline.

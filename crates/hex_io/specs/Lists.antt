@@ -1,4 +1,4 @@
--- Digest lists. There is a line for each entry, with the digits of its digest, its mark and its name.
+-- Digest lists. There is a line for each entry, with the digits of its digest, a space, its mark and its name.
 use Rattle.std.specs.Prelude.{◌≡◌, ◌<◌, ℕ, ◌+◌, ◌-◌, ◌*◌, ◌==◌, nat_lt, Bool, ◌&&◌, ◌||◌, if◌then◌else◌, List, [], ◌∷◌}
 use Rattle.std.specs.Prelude.{◌++◌, length, take, drop, slice_index, position, Option, Some, None}
 use Rattle.std.specs.List.{AllByRecursion, AllZip, flat_map, list_any, slice_split}

@@ -25,7 +25,8 @@ DecodesPairs c waiting digits old new result =
     MatchOption result ((first_invalid c digits ≢ None) × (new ≡ old))
     (λ next. (bytes : List ℕ) × SpellsBut c (option_to_list waiting ++ digits) bytes (option_to_list next) × (new ≡ with_front old bytes))
 
--- if `total` bytes end inside a piece, n more bytes do not pass the end of that piece
+-- if `total` bytes end inside a piece, n more bytes do not pass the end of that piece. Without a group this always
+-- holds
 abbrev pub FitsPiece : Option Group → ℕ → ℕ → Type 0
 FitsPiece None total n = 0 ≤ n
 FitsPiece (Some group) total n = 0 < total % piece_len group → total % piece_len group + n ≤ piece_len group

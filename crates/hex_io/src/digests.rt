@@ -1,5 +1,5 @@
-//! Digest lists. A list has one line for each entry, with the digits of its digest, its mark and
-//! its name.
+//! Digest lists, such as `sha256sum` prints. A list has one line for each entry, with the digits of
+//! its digest, a space, its mark, which is a space or `*`, and its name: `ab01 *photo.jpg`.
 
 ghost use Rattle.std.specs.Prelude.{◌≡◌, ◌≢◌, ◌≤◌, ◌*◌, ◌++◌, ◌∷◌, [], None, Some, length, take};
 ghost use Rattle.hex_core.specs.Calls.{Answers};
@@ -341,7 +341,7 @@ fn bad_name<const N: usize>(entries: &[Entry<'_, N>]) -> Option<usize>
     None
 }
 
-// Returns the mark of an entry.
+// Returns the byte before the name of an entry.
 fn mark_of(binary: bool) -> u8
     ensures { result ≡ mark binary }
 {

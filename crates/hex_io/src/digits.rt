@@ -27,8 +27,8 @@ pub fn encoded<'b>(bytes: &[u8], upper: bool, buffer: &'b mut [u8]) -> &'b [u8]
     ensures text { result.now ≡ text upper bytes.now }
     ensures ascii { IsAscii result.now }
 {
-    // A call of `hex_encode` would do the same. But the toolchain keeps no proof that reads the
-    // contract of `hex_encode`, so each program that uses this crate would prove `encoded` again.
+    // A call of `hex_encode` would do the same, but would cost each crate above this one a long check.
+    // docs/DECISIONS.md says why.
     let len = hex_encode_into(bytes, buffer, upper).unwrap();
     &buffer[..len]
 }
@@ -120,7 +120,7 @@ fn put_parts<S: Sink>(
     Ok(())
 }
 
-/// Returns the length of the part that follows the first `total` bytes, which is at most `most`.
+/// Returns how many bytes the next part has, at most `most`, after the first `total` bytes.
 /// Inside a piece, the part ends with that piece at the latest. At the start of a piece, the part is
 /// as many whole pieces as fit, or the beginning of a longer piece.
 #[inline(always)]

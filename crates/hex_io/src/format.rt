@@ -69,7 +69,8 @@ impl Default for HexFlags {
     }
 }
 
-/// A view of borrowed bytes. It prints them in order as hex digits, two for each byte.
+/// A view of borrowed bytes. It prints them in order as hex digits, two for each byte. `{}` and `{:#}`
+/// print lowercase digits alone. [`Hex::write_to`] has a prefix, a width, uppercase and groups.
 ///
 /// ```rust
 /// let text = format!(in rt.alloc(); "{}", Hex::new(&[0, 0xab, 0xcd]))?;

@@ -10,8 +10,9 @@ use hex_core::laws::{
     encoding_inverts_strict_decoding,
 };
 
-/// A decoder has written the bytes that one call of `hex_decode` writes for the whole pairs of all it
-/// was fed. The lengths of the chunks do not matter.
+/// A decoder has written the bytes that one call of `hex_decode_with_case` writes, by the decoder's
+/// policy, for the whole pairs of its digits. White space that it skipped does not count, and the
+/// lengths of the chunks do not matter.
 pub fn any_cutting_is_decoded_as_one_call()
     ensures same { WritesAsOneCall }
 {}

@@ -155,7 +155,7 @@ pub fn put_all<S: Sink>(sink: &mut S, piece: &[u8]) -> Result<(), WriteFault>
 /// assert_eq!(rt; sink.written(), b"hash=0x00ABCD, again=00abcd".as_slice());
 /// assert_eq!(rt; sink.failures(), 0);
 /// ```
-// The second example is the Rust crate's test `writes_into_fixed_storage_without_alloc`.
+// The second example is the test of the crate `faster-hex` named `writes_into_fixed_storage_without_alloc`.
 #[derive(Drop)]
 pub struct SliceSink<'a> {
     buf: &'a mut [u8],

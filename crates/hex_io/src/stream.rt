@@ -34,7 +34,7 @@ const STREAM_CHUNK: usize = 8_192;
 /// ```
 #[derive(Clone, Copy, Debug, PartialEq, Eq)]
 pub enum StreamFault {
-    /// A read failed, for another reason than an interrupt.
+    /// A read failed, for another reason than an interrupt. The reader's own error is not kept.
     Read,
     /// A byte is invalid, the number of digits is odd, or the number of bytes exceeds `usize`.
     Codec(Error),
@@ -89,7 +89,7 @@ impl From<WriteFault> for StreamFault {
 /// - [`StreamFault::Codec`] with [`Error::OddLength`] if all bytes are digits and their number is
 ///   odd. The bytes of all whole pairs were put.
 /// - [`StreamFault::Codec`] with [`Error::Overflow`] if the number of bytes read exceeds `usize`.
-/// - [`StreamFault::Write`] if a put failed.
+/// - [`StreamFault::Write`] if a put failed. The sink has taken a first part of the output.
 ///
 /// ```rust
 /// let mut input: &[u8] = b"68656C6c6f";
@@ -172,11 +172,11 @@ fn decode_by_decoder<R: Read, S: Sink>(
 ///
 /// # Errors
 ///
-/// After an error, the digits of earlier chunks have already been put.
+/// After `Read` or `Overflow`, the sink has taken the digits of all bytes that were read before.
 ///
 /// - [`StreamFault::Read`] if a read failed.
 /// - [`StreamFault::Codec`] with [`Error::Overflow`] if the number of bytes exceeds `usize`.
-/// - [`StreamFault::Write`] if a put failed.
+/// - [`StreamFault::Write`] if a put failed. The sink has taken a first part of the output.
 ///
 /// ```rust
 /// let mut input: &[u8] = b"hello";
@@ -255,7 +255,8 @@ fn encode_by<R: Read, S: Sink>(
     }
 }
 
-// Reads once, and again as long as the read is interrupted.
+// Reads once, and again as long as the read is interrupted. The loop has a bound because the prover
+// asks that it ends.
 fn read_again<R: Read>(reader: &mut R, buf: &mut [u8]) -> io::Result<usize>
     ensures bound { ReadsAtMost result buf.new }
     ensures bytes { ReadConsumes (R.remaining reader.old) (R.remaining reader.new) result buf.new }

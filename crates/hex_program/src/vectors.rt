@@ -180,8 +180,8 @@ pub(crate) struct Report<A: Allocator> {
 }
 
 impl<A: Allocator> Report<&A> {
-    // Runs the vectors for a plan, or those that run only once if the plan is `plain`, and adds
-    // their lines.
+    // Runs the vectors of calls that take a plan, and adds their lines. For the plan `plain` it runs
+    // those that run only once instead.
     fn add(&mut self, alloc: &A, plan: Backend, table: &[Vector<'_>]) -> Result<(), AllocError> {
         let under = plan.name();
         for vector in table {

@@ -28,7 +28,7 @@ fn are_marked(decoded: &mut [u8; 5], encoded: &mut [u8; 8], empty: &mut [u8; 5])
     is_decoded && is_encoded && is_empty && are_left && *encoded == *b"00ABCD\xff\xff"
 }
 
-// The examples of the Rust crate's `decode.rs` and `encode.rs` that write through the returned slice.
+// The examples of `decode.rs` and `encode.rs` in `faster-hex` that write through the returned slice.
 #[test]
 fn a_write_through_the_answer_stays_in_the_front(rt: HostRuntime) {
     assert!(rt; are_marked(&mut [0xa5; 5], &mut [0xff; 8], &mut [0xa5; 5]));
@@ -45,13 +45,13 @@ fn outlives_its_source(alloc: Global) -> Result<bool, AllocError> {
     Ok(is_answered && dst == [0xab, 0xff, 0xa5, 0xa5])
 }
 
-// The Rust crate's `decoded_prefix_borrows_only_the_destination_and_is_mutable`.
+// The test of `faster-hex` named `decoded_prefix_borrows_only_the_destination_and_is_mutable`.
 #[test]
 fn decoded_prefix_borrows_only_the_destination_and_is_mutable(rt: HostRuntime) {
     assert!(rt; outlives_its_source(rt.alloc()) == Ok(true));
 }
 
-// The last line of the Rust crate's `errors_have_stable_precedence_and_do_not_write`.
+// The last line of the test of `faster-hex` named `errors_have_stable_precedence_and_do_not_write`.
 #[test]
 fn either_case_is_read_by_default(rt: HostRuntime) {
     assert!(rt; CheckCase::default() == CheckCase::None);

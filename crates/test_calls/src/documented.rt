@@ -1,4 +1,4 @@
-//! Calls with their stated results: basic ones, the examples in the documentation of the Rust crate, and its tests.
+//! Calls with their stated results: basic ones, the examples in the documentation of `faster-hex`, and its tests.
 
 use crate::ends;
 use crate::slices::{POLICIES, Slices, invalid, too_small};

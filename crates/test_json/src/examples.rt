@@ -1,4 +1,4 @@
-//! The examples in the documentation of the Rust crate, where a record is an object, and more like them.
+//! The examples in the documentation of `faster-hex`, where a record is an object, and more like them.
 
 use crate::adapter::{
     Adapter, Answer, NO_MEMORY, ROOT, invalid, mismatch, modules, ok, over_bound,

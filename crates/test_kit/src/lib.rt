@@ -1,5 +1,5 @@
-//! What all tests share: the sources of calls, what calls must give, a comparison with what they gave, a buffer to write
-//! to, and a reader, a writer and an allocator that fail.
+//! What all tests share: the sources of calls, what calls must give, a comparison with what they gave, a buffer to
+//! write to, and a reader, a writer and an allocator that fail.
 #![tactic(auto)]
 
 pub mod destination;

@@ -23,7 +23,8 @@ mark_row policy.Upper = 167 ∷ 169 ∷ 169 ∷ 0 ∷ 0 ∷ 0 ∷ 0 ∷ 0 ∷ 0 
 abbrev pub mark : CheckCase → ℕ → ℕ
 mark c b = bit_xor (wrapping_sub b 199) (wrapping_sub (entry (mark_row c) (wrapping_sub b 199)) b)
 
--- what takes a byte to its value, by how far it is past the digit 7, modulo 16
+-- the numbers from which the distance of a byte past the digit 7 is subtracted. They are indexed by this distance,
+-- modulo 16. The difference has the bits in which the byte, after `fold_of`, differs from its value
 abbrev pub nibble_row : CheckCase → List ℕ
 nibble_row policy.None = 16 ∷ 17 ∷ 18 ∷ 0 ∷ 0 ∷ 0 ∷ 0 ∷ 0 ∷ 0 ∷ 0 ∷ 117 ∷ 116 ∷ 123 ∷ 118 ∷ 121 ∷ 120 ∷ []
 nibble_row policy.Lower = 48 ∷ 49 ∷ 50 ∷ 0 ∷ 0 ∷ 0 ∷ 0 ∷ 0 ∷ 0 ∷ 0 ∷ 149 ∷ 148 ∷ 155 ∷ 150 ∷ 153 ∷ 152 ∷ []

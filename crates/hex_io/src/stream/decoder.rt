@@ -123,8 +123,8 @@ impl Decoder {
     /// so you can feed it again.
     ///
     /// 1. [`Error::Overflow`] if the number of all bytes fed exceeds `usize`.
-    /// 2. [`Error::OutputTooSmall`] if `dst` has fewer bytes than this call writes. The error has
-    ///    that number.
+    /// 2. [`Error::OutputTooSmall`] if `dst` has fewer bytes than this call would write. The error has
+    ///    that number, which is at most `(src.len() + 1) / 2`.
     /// 3. [`Error::InvalidChar`] if a byte is neither an accepted digit nor skipped. The error has
     ///    the first such byte and its index in all bytes fed. The last byte is tested too, even if
     ///    a digit there would wait.
@@ -212,6 +212,7 @@ impl Decoder {
         ensures reading { reading_of self.new ≡ reading_of self.old }
         ensures unchanged { OnErr result ((self.new ≡ self.old) × (dst.new ≡ dst.old)) }
     {
+        // Only whether the sum exceeds `usize` matters here.
         let _end = self.position.checked_add(src.len()).ok_or(Error::Overflow)?;
         let (count, is_clean) = survey(src, self.reading.case);
         let required = self.whole_pairs(count);
@@ -336,8 +337,8 @@ impl Decoder {
 }
 
 // Returns how many bytes of a source are not white space, and whether all of these are digits. It
-// copies the digits of a block and tests them in vectors. To test byte by byte would take ten times as
-// long.
+// copies the bytes of a block that are not white space, and tests them in vectors. To test byte by byte
+// would take ten times as long.
 fn survey(src: &[u8], case: CheckCase) -> (usize, bool)
     ensures count { result.0 ≡ length (unspaced src.now) }
     ensures clean { IsTrue result.1 ↔ (first_invalid_read (spaced case) src.now ≡ None) }

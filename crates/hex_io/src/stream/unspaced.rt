@@ -18,8 +18,8 @@ pub fn copy_unspaced(src: &[u8], block: &mut [u8]) -> usize
     ensures room { result ≤ length block.new }
 {
     let mut count = 0;
-    // `copy_runs` copies whole vectors, and so also reads up to `LANES` bytes behind its block. They are
-    // there for each whole block except the last one.
+    // `copy_runs` copies whole vectors, so it reads up to `LANES` bytes after those of its turn. After
+    // the last whole block these may be missing, so `copy_each` copies that block.
     let blocks = (src.len() / LANES).saturating_sub(1);
     'turns: for i in 0..blocks {
         count = copy_runs(src, LANES * i, block, count);

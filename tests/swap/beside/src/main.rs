@@ -1,4 +1,4 @@
-//! Calls the bindings and the Rust crate on the same random inputs, and on strings of all lengths up to 4,200. It
+//! Calls our Rust crate and `faster-hex` on the same random inputs, and on strings of all lengths up to 4,200. It
 //! compares answers, texts of errors, whole destinations, capacities, and the number and size of allocations. The
 //! table in `calls` has every public name of both, and `ADDED` those of the bindings alone. `tests/test_swap.py`
 //! builds and runs it. For each kind of call it prints the first round in which the two differ. The last line is

@@ -1,1 +1,1 @@
-//! The tests of the Rust crate stand in `tests`.
+//! The tests of `faster-hex` are in `tests`.
