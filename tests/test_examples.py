@@ -154,7 +154,9 @@ def test_snippet_in_c(tmp_path, library):
         #include <stdio.h>
         static unsigned char key[2];
         static void told(struct faster_hex_answer it) {{
-            printf(it.status == FASTER_HEX_DONE ? "FASTER_HEX_DONE" : "FASTER_HEX_INVALID_CHAR, index %zu", it.number);
+            if (it.status == FASTER_HEX_DONE) printf("FASTER_HEX_DONE");
+            else if (it.status == FASTER_HEX_INVALID_CHAR) printf("FASTER_HEX_INVALID_CHAR, index %zu", it.number);
+            else printf("status %d", it.status);
             printf(": key is%s %02x %02x\\n", it.status ? " still" : "", key[0], key[1]);
         }}
         int main(void) {{
